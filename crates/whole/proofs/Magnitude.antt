@@ -1,0 +1,66 @@
+-- Magnitudes: how large |z| can be (`natAbs z`), by the magnitudes of the parts of z. `bound-* a b h k : natAbs (a *ℤ b) ≤ 10 * 20` where
+-- `h : natAbs a ≤ 10` and `k : natAbs b ≤ 20`.
+use mathlib.Core.Path.{_≡_, refl, subst}
+use mathlib.Core.Bool.{Bool, true, false, cond}
+use Prim.Native.Nat.{ℕ, zero, suc, _+_, _-_, _*_, _≤_, _<_, suc-le-suc}
+use native.Mathlib.Nat as N
+use native.Mathlib.Omega.{arith}
+use lib.IntN.{ℤ, pos, negsuc, negℤ, natAbs, subℕ, _+ℤ_, _-ℤ_, _*ℤ_, negℤ-negℤ}
+use lib.Signed.{_≤ℤ_, leZ-yes, ≤ℤ-refl}
+use lib.Dec.{T, ltb, leb→le, ltb→lt}
+use Rattle.whole.proofs.Order.{pos-le, negℤ-mono}
+
+-- the magnitude of a sum, a negation, a difference, a product
+natAbs-sub : (a b : ℕ) → natAbs (subℕ a b) ≤ a + b
+natAbs-sub a b = go (ltb a b) (λ t. ltb→lt a b t)
+  where
+    go : (c : Bool) → (T c → a < b) → natAbs (cond c (negsuc (b - suc a)) (pos (a - b))) ≤ a + b
+    go true f = let h : a < b = f tt in omega arith
+    go false f = omega arith
+
+pub natAbs-+ : (a b : ℤ) → natAbs (a +ℤ b) ≤ natAbs a + natAbs b
+natAbs-+ (pos a) (pos b) = N.le-refl (a + b)
+natAbs-+ (pos a) (negsuc b) = natAbs-sub a (suc b)
+natAbs-+ (negsuc a) (pos b) = N.le-trans (natAbs-sub b (suc a)) (omega arith)
+natAbs-+ (negsuc a) (negsuc b) = omega arith
+
+pub natAbs-neg : (a : ℤ) → natAbs (negℤ a) ≡ natAbs a
+natAbs-neg (pos zero) = refl
+natAbs-neg (pos (suc n)) = refl
+natAbs-neg (negsuc n) = refl
+
+pub natAbs-- : (a b : ℤ) → natAbs (a -ℤ b) ≤ natAbs a + natAbs b
+natAbs-- a b = subst (λ (x : ℕ). natAbs (a -ℤ b) ≤ natAbs a + x) (natAbs-neg b) (natAbs-+ a (negℤ b))
+
+pub natAbs-* : (a b : ℤ) → natAbs (a *ℤ b) ≡ natAbs a * natAbs b
+natAbs-* (pos a) (pos b) = refl
+natAbs-* (pos a) (negsuc b) = natAbs-neg (pos (a * suc b))
+natAbs-* (negsuc a) (pos b) = natAbs-neg (pos (suc a * b))
+natAbs-* (negsuc a) (negsuc b) = refl
+
+-- bounds that are known pass through sums and products
+pub bound-+ : (a b : ℤ) {m n : ℕ} → natAbs a ≤ m → natAbs b ≤ n → natAbs (a +ℤ b) ≤ m + n
+bound-+ a b h k = N.le-trans (natAbs-+ a b) (N.add-le-add h k)
+
+pub bound-- : (a b : ℤ) {m n : ℕ} → natAbs a ≤ m → natAbs b ≤ n → natAbs (a -ℤ b) ≤ m + n
+bound-- a b h k = N.le-trans (natAbs-- a b) (N.add-le-add h k)
+
+pub bound-* : (a b : ℤ) {m n : ℕ} → natAbs a ≤ m → natAbs b ≤ n → natAbs (a *ℤ b) ≤ m * n
+bound-* a b h k = N.le-trans (N.le-of-eq (natAbs-* a b)) (N.mul-le-mul h k)
+
+-- |z| ≤ B is -B ≤ z ≤ B
+abs-le-cases : (z : ℤ) (m : ℕ) → z ≤ℤ pos m → negℤ (pos m) ≤ℤ z → natAbs z ≤ m
+abs-le-cases (pos n) m h k = pos-le h
+abs-le-cases (negsuc n) zero h k = absurd (k .le)
+abs-le-cases (negsuc n) (suc m) h k = suc-le-suc (leb→le n m (k .le))
+
+pub natAbs-le-of : {z : ℤ} {m : ℕ} → z ≤ℤ pos m → negℤ (pos m) ≤ℤ z → natAbs z ≤ m
+natAbs-le-of {z} {m} h k = abs-le-cases z m h k
+
+pub le-natAbs : (z : ℤ) → z ≤ℤ pos (natAbs z)
+le-natAbs (pos n) = ≤ℤ-refl (pos n)
+le-natAbs (negsuc n) = leZ-yes tt
+
+pub neg-natAbs-le : (z : ℤ) → negℤ (pos (natAbs z)) ≤ℤ z
+neg-natAbs-le z = subst (λ (x : ℤ). negℤ (pos (natAbs z)) ≤ℤ x) (negℤ-negℤ z)
+    (negℤ-mono (subst (λ (x : ℕ). negℤ z ≤ℤ pos x) (natAbs-neg z) (le-natAbs (negℤ z))))

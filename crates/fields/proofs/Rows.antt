@@ -1,0 +1,75 @@
+-- Reading a row of the table backwards: what is known of a number that lets the walk go on, and of a field that is the end.
+use Prim.Native.Nat.{ℕ, _^_, _≤_, _<_}
+use mathlib.Core.Path.{_≡_, refl}
+use mathlib.Core.Bool.{Bool, true, false, _&&_}
+use native.Mathlib.Omega.{arith}
+use borrow.Author.Tests.{leb-true}
+use lib.Dec.{leb}
+use Rattle.numbers.proofs.Clash.{clash}
+use Rattle.fields.specs.declared.Field.{Field}
+use Rattle.fields.specs.declared.Field.the-variants.{Society, Job, Count, Order, Constant, Tolerance, Crude, Weight, Floor, Ceiling, LinkCount, TermCount, Cell, Coefficient, Bound, Value, Multiplier, End}
+use Rattle.fields.specs.declared.Step.{Step}
+use Rattle.fields.specs.declared.Step.the-variants.{Next}
+use Rattle.fields.specs.Table.{within, rule, signedAt, endAt, stepOf}
+
+-- a rule that lets the walk go on was kept
+pub record Kept (allowed : Bool) (s : Step) (g : Field) : Type 0 where
+  pub ok : allowed ≡ true
+  pub next : s ≡ Next g
+
+pub kept : {allowed : Bool} {s : Step} {g : Field} → rule allowed s ≡ Next g → Kept allowed s g
+kept {allowed} {s} {g} e = go allowed refl e
+  where
+    go : (o : Bool) → allowed ≡ o → rule o s ≡ Next g → Kept allowed s g
+    go true q e = record { ok = q; next = e }
+    go false q e = clash (cc)
+
+pub within-both : (least most x : ℕ) → within least most x ≡ true → (least ≤ x) × (x ≤ most)
+within-both least most x e = go (leb least x) refl e
+  where
+    go : (o : Bool) → leb least x ≡ o → (o && leb x most) ≡ true → (least ≤ x) × (x ≤ most)
+    go true q e = (leb-true least x q, leb-true x most e)
+    go false q e = clash (cc)
+
+-- a signed number that is allowed is small in its stored form
+pub signed-small : (f : Field) (x : ℕ) (g : Field) → signedAt f ≡ true → stepOf f x ≡ Next g → x < 2 ^ 63
+unfolding stepOf
+signed-small Society x g t e = clash (cc)
+signed-small Job x g t e = clash (cc)
+signed-small Count x g t e = clash (cc)
+signed-small (Order a) x g t e = clash (cc)
+signed-small (Constant a b) x g t e = clash (cc)
+signed-small (Tolerance a b) x g t e = clash (cc)
+signed-small (Crude a) x g t e = clash (cc)
+signed-small (Weight a) x g t e = clash (cc)
+signed-small (Floor a) x g t e = clash (cc)
+signed-small (Ceiling a b) x g t e = clash (cc)
+signed-small (LinkCount a) x g t e = clash (cc)
+signed-small (TermCount a) x g t e = clash (cc)
+signed-small (Cell a) x g t e = clash (cc)
+signed-small (Coefficient a b) x g t e = omega (arith, within-both 0 20 x (kept e .ok))
+signed-small (Bound a) x g t e = omega (arith, within-both 0 2000000000 x (kept e .ok))
+signed-small (Value a b) x g t e = clash (cc)
+signed-small (Multiplier a) x g t e = clash (cc)
+signed-small End x g t e = clash (cc)
+
+-- only the end is the end
+pub end-only : (f : Field) → endAt f ≡ true → f ≡ End
+end-only Society e = clash (cc)
+end-only Job e = clash (cc)
+end-only Count e = clash (cc)
+end-only (Order a) e = clash (cc)
+end-only (Constant a b) e = clash (cc)
+end-only (Tolerance a b) e = clash (cc)
+end-only (Crude a) e = clash (cc)
+end-only (Weight a) e = clash (cc)
+end-only (Floor a) e = clash (cc)
+end-only (Ceiling a b) e = clash (cc)
+end-only (LinkCount a) e = clash (cc)
+end-only (TermCount a) e = clash (cc)
+end-only (Cell a) e = clash (cc)
+end-only (Coefficient a b) e = clash (cc)
+end-only (Bound a) e = clash (cc)
+end-only (Value a b) e = clash (cc)
+end-only (Multiplier a) e = clash (cc)
+end-only End e = refl

@@ -1,0 +1,27 @@
+-- Document 01's examples of packs, computed by the definitions.
+use mathlib.Core.Path.{refl}
+use Rattle.numbers.specs.Plain.{numberIn, bytesIn}
+use Rattle.fields.specs.Table.{stepOf}
+use Rattle.packs.specs.Reading.{runFrom}
+use Rattle.packs.specs.Writing.{writeFrom}
+use Rattle.jobs.specs.Examples.{Examples}
+
+pub examples : Examples
+unfolding numberIn bytesIn stepOf runFrom writeFrom
+examples = record {
+  one-group = refl;
+  two-groups = refl;
+  three-hundred = refl;
+  read-three-hundred = refl;
+  not-shortest = refl;
+  minus-one = refl;
+  ten = refl;
+  read-one = refl;
+  read-twenty = refl;
+  empty = refl;
+  order-of-two = refl;
+  job = refl;
+  proposal = refl;
+  order-kept = refl;
+  order-written = refl;
+}

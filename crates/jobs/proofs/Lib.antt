@@ -1,0 +1,12 @@
+pub mod Steps
+pub mod Places
+pub mod Taken
+pub mod Cells
+pub mod Terms
+pub mod Links
+pub mod Jobs
+pub mod Proposals
+pub mod Readings
+pub mod Handed
+pub mod Trips
+pub mod Examples

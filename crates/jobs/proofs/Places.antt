@@ -1,0 +1,55 @@
+-- Where the words of an allowed job stand, and that there are few of them; what a number from 0 to a most tells.
+use Prim.Native.Nat.{ℕ, zero, suc, _+_, _-_, _*_, _≤_, _<_}
+use mathlib.Core.Path.{_≡_, refl, sym, ap, subst, _∙_}
+use mathlib.Core.List.{List}
+use native.Mathlib.Nat as N
+use native.Mathlib.Omega.{arith}
+use lib.IntN.{ℤ, pos, natAbs}
+use lib.ListN.{length}
+use lib.Signed.{_≤ℤ_}
+use Rattle.whole.proofs.Order.{pos-nonneg, pos-mono}
+use Rattle.jobs.specs.Words.{countAt, cellsOf, linksOf, startOf, jobOf}
+use Rattle.jobs.specs.Allowed.{Upto, Allowed, Laid}
+
+pub upto-of : {z : ℤ} {x most : ℕ} → z ≡ pos x → x ≤ most → Upto most z
+upto-of {z} {x} {most} e h = record { natural = e ∙ ap pos (sym (ap natAbs e)); small = subst (λ (n : ℕ). n ≤ most) (sym (ap natAbs e)) h }
+
+pub upto-nonneg : {most : ℕ} {z : ℤ} → Upto most z → pos 0 ≤ℤ z
+upto-nonneg {most} {z} h = subst (λ (x : ℤ). pos 0 ≤ℤ x) (sym (h .natural)) (pos-nonneg (natAbs z))
+
+pub upto-le : {most : ℕ} {z : ℤ} → Upto most z → z ≤ℤ pos most
+upto-le {most} {z} h = subst (λ (x : ℤ). x ≤ℤ pos most) (sym (h .natural)) (pos-mono (h .small))
+
+-- ---- where links start
+
+pub start-zero : (ws : List ℤ) → startOf ws 0 ≡ 7 + 4 * cellsOf ws
+unfolding startOf
+start-zero ws = refl
+
+pub start-suc : (ws : List ℤ) (j : ℕ) → startOf ws (suc j) ≡ startOf ws j + 2 * countAt ws (startOf ws j) + 2
+unfolding startOf
+start-suc ws j = refl
+
+start-more : (ws : List ℤ) (j k : ℕ) → startOf ws j ≤ startOf ws (j + k)
+start-more ws j zero = N.le-of-eq (ap (startOf ws) (sym (N.add-zero j)))
+start-more ws j (suc k) = rw N.add-suc (omega (arith, start-more ws j k, start-suc ws (j + k)))
+
+pub start-mono : (ws : List ℤ) {j k : ℕ} → j ≤ k → startOf ws j ≤ startOf ws k
+start-mono ws {j} {k} h = let e : j + (k - j) ≡ k = omega arith in rw e at (start-more ws j (k - j))
+
+-- ---- the words of an allowed job
+
+module _ {ws : List ℤ} (laid : Laid ws) where
+  pub cells-inside : 7 + 4 * cellsOf ws ≤ length ws
+  cells-inside = omega (arith, start-zero ws, start-mono ws {j = 0} {k = linksOf ws} (omega arith), laid .ends)
+
+  pub link-inside : (j : ℕ) → j < linksOf ws → startOf ws j + 2 * countAt ws (startOf ws j) + 2 ≤ length ws
+  link-inside j h = omega (arith, start-suc ws j, start-mono ws {j = suc j} {k = linksOf ws} h, laid .ends)
+
+  module _ (allowed : Allowed (jobOf ws)) where
+    start-few : (j : ℕ) → j ≤ linksOf ws → startOf ws j ≤ 487 + 10 * j
+    start-few zero h = omega (arith, start-zero ws, allowed .cells-few)
+    start-few (suc j) h = omega (arith, start-suc ws j, start-few j (N.le-trans (N.le-suc j) h), allowed .link j h .terms-few)
+
+    pub words-few : length ws ≤ 2087
+    words-few = omega (arith, start-few (linksOf ws) (N.le-refl (linksOf ws)), laid .ends, allowed .links-few)

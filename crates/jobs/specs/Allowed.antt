@@ -1,0 +1,76 @@
+-- What is known of a job that was read (document 01, "Numbers allowed", and the refusals 3, 4 and 5), and of the words it was read into.
+use Prim.Native.Nat.{ℕ, zero, suc, _+_, _*_, _≤_, _<_}
+use mathlib.Core.Path.{_≡_}
+use mathlib.Core.List.{List}
+use lib.IntN.{ℤ, pos, natAbs}
+use lib.ListN.{length}
+use lib.Signed.{_≤ℤ_, ltZ}
+use Rattle.numbers.specs.Choice.{if_then_else_}
+use Rattle.jobs.specs.Job.{Job}
+use Rattle.jobs.specs.Words.{wordAt, countAt, headWords, cellWords, cellsOf, linksOf, startOf}
+
+-- A number from 0 to a most.
+pub record Upto (most : ℕ) (z : ℤ) : Type 0 where
+  pub natural : z ≡ pos (natAbs z)
+  pub small : natAbs z ≤ most
+
+pub record CellAllowed (j : Job) (i : ℕ) : Type 0 where
+  pub crude : Upto 1000000 (j .crude i)
+  pub weight : Upto 1000 (j .weight i)
+  pub floor : Upto 1000000 (j .floor i)
+  pub ceiling : Upto 1000000 (j .ceiling i)
+  pub box : j .floor i ≤ℤ j .ceiling i
+
+pub record TermAllowed (j : Job) (link term : ℕ) : Type 0 where
+  pub cell : j .cell link term < j .cells
+  pub coefficient-small : natAbs (j .coefficient link term) ≤ 10
+  pub coefficient-some : 1 ≤ natAbs (j .coefficient link term)
+  pub rising : suc term < j .terms link → j .cell link term < j .cell link (suc term)
+
+pub record LinkAllowed (j : Job) (link : ℕ) : Type 0 where
+  pub terms-some : 1 ≤ j .terms link
+  pub terms-few : j .terms link ≤ 4
+  pub term : (m : ℕ) → m < j .terms link → TermAllowed j link m
+  pub bound : natAbs (j .bound link) ≤ 1000000000
+
+-- How many of the k cells from the cell i on have a positive weight.
+unfoldable pub positives : Job → (i k : ℕ) → ℕ
+positives j i zero = 0
+positives j i (suc k) = (if ltZ (pos 0) (j .weight i) then 1 else 0) + positives j (suc i) k
+
+pub record Allowed (j : Job) : Type 0 where
+  pub society : j .society ≤ 7
+  pub number : j .number ≤ 4294967295
+  pub cells-some : 2 ≤ j .cells
+  pub cells-few : j .cells ≤ 120
+  pub order-some : 1 ≤ j .order
+  pub order-few : j .order ≤ 4
+  pub order-less : j .order < j .cells
+  pub constant : Upto 1000 (j .constant)
+  pub constant-some : 1 ≤ natAbs (j .constant)
+  pub tolerance : Upto 1000000000000000 (j .tolerance)
+  pub cell : (i : ℕ) → i < j .cells → CellAllowed j i
+  pub weights : j .order ≤ positives j 0 (j .cells)
+  pub links-few : j .links ≤ 160
+  pub link : (l : ℕ) → l < j .links → LinkAllowed j l
+
+-- A word that counts or names something is what it counts or names.
+abbrev pub Counted : List ℤ → ℕ → Type 0
+Counted ws i = wordAt ws i ≡ pos (countAt ws i)
+
+-- The words are those of a whole job pack: every word that counts or names is not negative, and the last link ends where they end.
+pub record Laid (ws : List ℤ) : Type 0 where
+  pub society : Counted ws 0
+  pub number : Counted ws 1
+  pub cells : Counted ws 2
+  pub order : Counted ws 3
+  pub links : Counted ws (headWords + cellWords * cellsOf ws)
+  pub terms : (j : ℕ) → j < linksOf ws → Counted ws (startOf ws j)
+  pub cell : (j m : ℕ) → j < linksOf ws → m < countAt ws (startOf ws j) → Counted ws (startOf ws j + 1 + 2 * m)
+  pub ends : startOf ws (linksOf ws) ≡ length ws
+
+-- What is known of a proposal that was read: a value for each cell, then a multiplier for each link.
+pub record Proposed (cells links : ℕ) (ws : List ℤ) : Type 0 where
+  pub count : length ws ≡ cells + links
+  pub value : (i : ℕ) → i < cells → Upto 1000000 (wordAt ws i)
+  pub multiplier : (j : ℕ) → j < links → Upto 1000000000 (wordAt ws (cells + j))

@@ -1,0 +1,39 @@
+// The proposal pack.
+use fields::proposal::values_from;
+use packs::Outcome;
+use packs::writing::in_room;
+use packs::writing::measured;
+ghost use mathlib.Core.Path.{_≡_};
+ghost use lib.ListN.{length};
+ghost use Rattle.packs.specs.Reading.{Hands};
+ghost use Rattle.packs.specs.Writing.{roomed, Leaves};
+ghost use Rattle.jobs.specs.Packs.{asSix, readProposal, writeProposal};
+
+// Every refusal of the pack's numbers is 6 in a proposal.
+fn as_six(o: Outcome) -> Outcome
+    ensures { λ r. ⌜ r ≡ asSix o ⌝ }
+{
+    match o {
+        Outcome::Done(k) => Outcome::Done(k),
+        Outcome::Refused(_, place) => Outcome::Refused(6, place),
+    }
+}
+
+// Reads a proposal pack for so many cells and links: the values, then the multipliers. Words before a refusal are stored too: lend it room of your
+// own.
+pub fn read_proposal(pack: &[u8], cells: u64, links: u64, words: &mut [i64]) -> Outcome
+    ensures { λ r. ⌜ Hands (readProposal cells links (now (pack .entry))) (now (words .entry)) r (now (words .exit)) ⌝ }
+{
+    let first = values_from(cells, links);
+    let o = packs::reading::read(pack, first, words);
+    as_six(o)
+}
+
+// Writes a proposal's words as its pack, or refuses as reading that pack would and writes nothing; room is tested last.
+pub fn write_proposal(words: &[i64], cells: u64, links: u64, out: &mut [u8]) -> Outcome
+    ensures { λ r. ⌜ Leaves (roomed (length (now (out .entry))) (writeProposal cells links (now (words .entry)))) (now (out .entry)) r (now (out .exit)) ⌝ }
+{
+    let first = values_from(cells, links);
+    let o = as_six(measured(words, first));
+    in_room(words, first, o, out)
+}

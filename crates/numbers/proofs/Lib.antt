@@ -1,0 +1,5 @@
+pub mod Clash
+pub mod Reading
+pub mod Bytes
+pub mod Inverse
+pub mod Signs

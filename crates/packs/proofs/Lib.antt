@@ -1,0 +1,6 @@
+pub mod Stores
+pub mod Along
+pub mod Onto
+pub mod Packed
+pub mod Packable
+pub mod Trips

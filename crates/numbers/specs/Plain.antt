@@ -35,3 +35,7 @@ bytesIn (suc groups) x = if ltb x 128 then x ∷ [] else (x % 128 + 128) ∷ byt
 -- The shortest form of x: ten groups hold every 64-bit number, nine every number below 2^63.
 abbrev pub bytesOf : ℕ → List ℕ
 bytesOf x = bytesIn 10 x
+
+-- A last group b, after lower groups that come to `value`: it counts `scale` times. A 0 there is one group too many, unless it is the only one.
+abbrev pub lastGroup : (b value scale next : ℕ) → Number
+lastGroup b value scale next = if ltb 0 b then Value (b * scale + value) next else if ltb 1 scale then Unreadable else Value value next

@@ -3,7 +3,7 @@ ghost use mathlib.Core.Path.{_≡_};
 ghost use Prim.Native.Nat.{ℕ, _+_, _^_, _≤_, _<_};
 ghost use lib.ListN.{length, drop};
 ghost use lib.Seq.{sets};
-ghost use Rattle.numbers.specs.Plain.{numberAt, numberIn, joined, valueOf, bytesOf};
+ghost use Rattle.numbers.specs.Plain.{numberAt, lastGroup, bytesOf};
 
 // What reading a number finds: its value with the offset after it, or none in the shortest form.
 pub enum Number {
@@ -17,45 +17,21 @@ fn wide(x: u8) -> u64
     x as u64
 }
 
-// A group whose top bit is set, before the number that the later groups make.
-fn join(b: u64, rest: Number) -> Number
-    requires { ⌜ valueOf rest < 2 ^ 56 ⌝ }
-    ensures { λ r. ⌜ r ≡ joined b rest ⌝ }
+// The last group b of a number, after groups that come to `value`, of which the next would count `scale` times.
+fn last(b: u64, value: u64, scale: u64, next: usize) -> Number
+    requires { ⌜ (b < 128) × ((value < scale) × (scale ≤ 2 ^ 56)) ⌝ }
+    ensures { λ r. ⌜ r ≡ lastGroup b value scale next ⌝ }
 {
-    match rest {
-        Number::Value { value, next } => {
-            if value == 0 {
-                return Number::Unreadable;
-            }
-            Number::Value {
-                value: value * 128 + b % 128,
-                next,
-            }
-        }
-        Number::Unreadable => Number::Unreadable,
-    }
-}
-
-// The number at `at`, in at most `left` groups.
-fn groups(s: &[u8], at: usize, left: usize) -> Number
-    requires { ⌜ (at ≤ length (now s)) × (left ≤ 9) ⌝ }
-    ensures { λ r. ⌜ r ≡ numberIn left (drop at (now (s .entry))) at ⌝ }
-{
-    if left == 0 {
-        return Number::Unreadable;
-    }
-    if s.len() <= at {
-        return Number::Unreadable;
-    }
-    let b = wide(s[at]);
-    if b < 128 {
+    if 0 < b {
         return Number::Value {
-            value: b,
-            next: at + 1,
+            value: b * scale + value,
+            next,
         };
     }
-    let rest = groups(s, at + 1, left - 1);
-    join(b, rest)
+    if 1 < scale {
+        return Number::Unreadable;
+    }
+    Number::Value { value, next }
 }
 
 // The number that starts at `at`.
@@ -65,7 +41,24 @@ pub fn number_at(s: &[u8], at: usize) -> Number
     if s.len() < at {
         return Number::Unreadable;
     }
-    groups(s, at, 9)
+    let mut i = at;
+    let mut value: u64 = 0;
+    let mut scale: u64 = 1;
+    let mut groups: usize = 0;
+    while groups < 9 {
+        if s.len() <= i {
+            return Number::Unreadable;
+        }
+        let b = wide(s[i]);
+        if b < 128 {
+            return last(b, value, scale, i + 1);
+        }
+        value += b % 128 * scale;
+        scale *= 128;
+        i += 1;
+        groups += 1;
+    }
+    Number::Unreadable
 }
 
 // How many bytes `x` takes.

@@ -1,0 +1,9 @@
+pub mod Problem
+pub mod Lowest
+pub mod Numbers
+pub mod Verdict
+pub mod Accepted
+pub mod Terms
+pub mod Best
+pub mod Worked
+pub mod Promises

@@ -1,0 +1,39 @@
+-- The promises, each a law whose type is its statement in specs/Promises.antt.
+use Rattle.claims.specs.Promises.{AcceptedExactly, JobRefusedExactly, ProposalRefusedExactly, OutsideExactly, BrokenExactly, AboveExactly, NoOtherRefusal, NoTermNegative, Best, AcceptedMeets, WorkedTables}
+use Rattle.claims.proofs.Accepted as Accepted
+use Rattle.claims.proofs.Terms as Terms
+use Rattle.claims.proofs.Best as Best
+use Rattle.claims.proofs.Worked as Worked
+
+pub accepted-exactly : AcceptedExactly
+accepted-exactly = Accepted.accepted-exactly
+
+pub job-refused-exactly : JobRefusedExactly
+job-refused-exactly = Accepted.job-refused-exactly
+
+pub proposal-refused-exactly : ProposalRefusedExactly
+proposal-refused-exactly = Accepted.proposal-refused-exactly
+
+pub outside-exactly : OutsideExactly
+outside-exactly = Accepted.outside-exactly
+
+pub broken-exactly : BrokenExactly
+broken-exactly = Accepted.broken-exactly
+
+pub above-exactly : AboveExactly
+above-exactly = Accepted.above-exactly
+
+pub no-other-refusal : NoOtherRefusal
+no-other-refusal = Accepted.no-other-refusal
+
+pub no-term-negative : NoTermNegative
+no-term-negative = Terms.no-term-negative
+
+pub best : Best
+best = Best.best
+
+pub accepted-meets : AcceptedMeets
+accepted-meets = Best.accepted-meets
+
+pub worked-tables : WorkedTables
+worked-tables = Worked.worked-tables

@@ -1,0 +1,17 @@
+-- The starred tables, from their bytes on, by computing.
+use mathlib.Core.Path.{refl}
+use Rattle.whole.specs.Sum.{sum}
+use Rattle.numbers.specs.Plain.{numberIn}
+use Rattle.fields.specs.Table.{stepOf}
+use Rattle.packs.specs.Reading.{runFrom}
+use Rattle.jobs.specs.Words.{startOf}
+use Rattle.rows.specs.Rows.{rowOf}
+use Rattle.measure.specs.Loss.{lossOf}
+use Rattle.measure.specs.Gap.{linkSum, residualOf, gapOf}
+use Rattle.measure.specs.Check.{lowestFrom, verdictOf}
+use Rattle.claims.specs.Meets.{scaledLossOf}
+use Rattle.claims.specs.Promises.{WorkedTables}
+
+pub worked-tables : WorkedTables
+unfolding sum numberIn stepOf runFrom startOf rowOf lossOf linkSum residualOf gapOf lowestFrom verdictOf scaledLossOf
+worked-tables = (refl, refl)

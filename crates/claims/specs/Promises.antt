@@ -1,0 +1,86 @@
+-- What is promised of the check: short statements about `checkOf`, which the check's contract cites, and the definitions beside them. The
+-- proof of each stands in proofs/Promises.antt.
+use Prim.Native.Nat.{ℕ, _≤_}
+use mathlib.Core.Path.{_≡_}
+use mathlib.Core.Logic.{_↔_}
+use mathlib.Core.List.{List, [], _∷_, map}
+use lib.IntN.{ℤ, pos, _-ℤ_, _*ℤ_}
+use lib.Signed.{_≤ℤ_}
+use Rattle.packs.specs.declared.Outcome.the-variants.{Refused as Refuses}
+use Rattle.jobs.specs.Words.{wordAt}
+use Rattle.jobs.specs.Packs.{readJob}
+use Rattle.measure.specs.declared.check.Verdict.the-variants.{Accepted, Refused}
+use Rattle.measure.specs.Check.{checkOf}
+use Rattle.claims.specs.Read.{jobIn, proposalIn, valuesIn, multipliersIn, Reads, BothRead}
+use Rattle.claims.specs.Meets.{EveryInBox, EveryLinkHolds, Meets, scaledLossOf, NoneNegative}
+use Rattle.claims.specs.Verdicts.{Acceptable, Outside, Broken, Above}
+use Rattle.claims.specs.Worked.{Table, plain, starred}
+
+-- ---- accepted exactly, and what each refusal means
+
+-- The check accepts with F and G if and only if both packs read, every value is in its box, every link holds, the gap is at most the tolerance,
+-- F is the loss and G the gap.
+abbrev pub AcceptedExactly : Type 0
+AcceptedExactly = (job proposal : List ℕ) (F G : ℤ) → (checkOf job proposal ≡ Accepted F G) ↔ Acceptable job proposal F G
+
+-- 1 to 5 are the job pack's refusals, with their places.
+abbrev pub JobRefusedExactly : Type 0
+JobRefusedExactly =
+    (job proposal : List ℕ) (number place : ℕ) → number ≤ 5
+    → (checkOf job proposal ≡ Refused number place) ↔ (readJob job .outcome ≡ Refuses number place)
+
+-- 6 is the proposal pack's refusal, for a job pack that reads.
+abbrev pub ProposalRefusedExactly : Type 0
+ProposalRefusedExactly =
+    (job proposal : List ℕ) (place : ℕ)
+    → (checkOf job proposal ≡ Refused 6 place) ↔ (Reads (readJob job .outcome) × (proposalIn job proposal .outcome ≡ Refuses 6 place))
+
+-- 7 names the lowest cell whose value is outside its box.
+abbrev pub OutsideExactly : Type 0
+OutsideExactly = (job proposal : List ℕ) (place : ℕ) → (checkOf job proposal ≡ Refused 7 place) ↔ Outside job proposal place
+
+-- 8 names the lowest broken link, where every value is in its box.
+abbrev pub BrokenExactly : Type 0
+BrokenExactly = (job proposal : List ℕ) (place : ℕ) → (checkOf job proposal ≡ Refused 8 place) ↔ Broken job proposal place
+
+-- 9 says that the gap is above the tolerance, where every value is in its box and every link holds.
+abbrev pub AboveExactly : Type 0
+AboveExactly = (job proposal : List ℕ) (place : ℕ) → (checkOf job proposal ≡ Refused 9 place) ↔ Above job proposal place
+
+-- There is no other refusal.
+abbrev pub NoOtherRefusal : Type 0
+NoOtherRefusal = (job proposal : List ℕ) (number place : ℕ) → checkOf job proposal ≡ Refused number place → (1 ≤ number) × (number ≤ 9)
+
+-- ---- no term is negative
+
+-- For a table that meets bounds and links no term is negative and no running total is above the gap: once such a total passes the tolerance, the
+-- answer is settled.
+abbrev pub NoTermNegative : Type 0
+NoTermNegative =
+    (job proposal : List ℕ) → BothRead job proposal
+    → EveryInBox (jobIn job) (valuesIn job proposal) → EveryLinkHolds (jobIn job) (valuesIn job proposal)
+    → NoneNegative (jobIn job) (valuesIn job proposal) (multipliersIn job proposal)
+
+-- ---- demand 3
+
+-- Where the check accepts with F and G, no table that meets the job, fractions included, has a loss below F - G: d²(F - G) is at most its scaled loss.
+abbrev pub Best : Type 0
+Best =
+    (job proposal : List ℕ) (F G : ℤ) → checkOf job proposal ≡ Accepted F G
+    → (d : ℤ) (X : ℕ → ℤ) → pos 1 ≤ℤ d → Meets (jobIn job) d X
+    → (d *ℤ d *ℤ (F -ℤ G)) ≤ℤ scaledLossOf (jobIn job) d X
+
+-- The accepted table, written with any d, is itself such a table and has the scaled loss d²F: so F is within G of the least.
+abbrev pub AcceptedMeets : Type 0
+AcceptedMeets =
+    (job proposal : List ℕ) (F G : ℤ) → checkOf job proposal ≡ Accepted F G
+    → (d : ℤ) → pos 1 ≤ℤ d → Meets (jobIn job) d (λ i. d *ℤ valuesIn job proposal i)
+    × (scaledLossOf (jobIn job) d (λ i. d *ℤ valuesIn job proposal i) ≡ d *ℤ d *ℤ F)
+
+-- ---- worked tables
+
+-- The check gives each starred table its verdict; and for u 0 1 0, "d 7, X 2 3 2 has 28".
+abbrev pub WorkedTables : Type 0
+WorkedTables =
+    (map (λ (t : Table). checkOf (t .job) (t .proposal)) starred ≡ map (λ (t : Table). t .verdict) starred)
+    × (scaledLossOf (jobIn (plain (1 ∷ []) 0 1 0)) (pos 7) (wordAt (pos 2 ∷ pos 3 ∷ pos 2 ∷ [])) ≡ pos 28)

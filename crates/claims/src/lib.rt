@@ -1,0 +1,1 @@
+// No code: what is promised of the bench, and why it holds.

@@ -1,0 +1,12 @@
+-- The laws behind the functions of this crate. Each file says what it is for.
+pub mod Places
+pub mod Table
+pub mod Losses
+pub mod Terms
+pub mod Totals
+pub mod Lowest
+pub mod Scattered
+pub mod Walks
+pub mod Residuals
+pub mod Verdicts
+pub mod Packed

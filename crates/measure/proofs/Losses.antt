@@ -1,0 +1,207 @@
+-- The bounds of the loss: a fit of at most 10^15 a cell, and squares that come to 7.424·10^15 at most, so that with k it is at most 7.6·10^18; and a
+-- list that is filled from its head.
+use Prim.Native.Nat.{ℕ, _+_, _-_, _*_, _≤_, _<_}
+use mathlib.Core.Path.{_≡_, refl, sym, ap, ap₂, subst, _∙_}
+use mathlib.Core.Logic.{_⊎_, inl, inr}
+use mathlib.Core.List.{List}
+use native.Mathlib.Nat as N
+use native.Mathlib.Omega.{arith}
+use native.Mathlib.Numerals.{add-one}
+use lib.Dec.{lit<, leb→le}
+use lib.IntN.{ℤ, pos, natAbs, _+ℤ_, _-ℤ_, _*ℤ_}
+use lib.ListN.{length, set, length-set}
+use lib.Seq.{getD-set-same, getD-set-other}
+use mir.Syntax.{w64}
+use mir.Val.{SFits}
+use Rattle.whole.specs.Sum.{sum}
+use Rattle.whole.proofs.Sums.{sum-cong, sum-bound}
+use Rattle.whole.proofs.Magnitude.{bound-+, bound-*}
+use Rattle.whole.proofs.Fits.{Adds, partial-small, small-fits, gives}
+use Rattle.certificate.specs.Problem.{squared}
+use Rattle.jobs.specs.Words.{wordAt, cellsOf, jobOf}
+use Rattle.measure.specs.Loss.{lossOf}
+use Rattle.measure.specs.Given.{Given, Differs, Difference, Differences, LossParts, Measured}
+use Rattle.measure.specs.Running.{differenceOf, Filled}
+use Rattle.measure.proofs.Places.{read, rate-read, weight-read, cells-inside}
+use Rattle.measure.proofs.Table.{difference-small, difference-less, difference-is}
+use Rattle.measure.proofs.Terms.{apart-small}
+use Rattle.measure.specs.OnWords.{differenceOn, fitTermOn, fitOn, lossOn}
+
+-- ---- the fit
+
+module _ {ws ps : List ℤ} (G : Given ws ps) (i : ℕ) (h : i < cellsOf ws) where
+  far-small : natAbs (wordAt ps i -ℤ jobOf ws .crude i) ≤ 1000000
+  far-small = apart-small (G .proposed .value i h) (G .allowed .cell i h .crude)
+
+  square-small : natAbs (squared (wordAt ps i -ℤ jobOf ws .crude i)) ≤ 1000000000000
+  square-small = bound-* (wordAt ps i -ℤ jobOf ws .crude i) (wordAt ps i -ℤ jobOf ws .crude i) far-small far-small
+
+  fit-small : natAbs (fitTermOn ws ps i) ≤ 1000000000000000
+  fit-small = bound-* (jobOf ws .weight i) (squared (wordAt ps i -ℤ jobOf ws .crude i)) (G .allowed .cell i h .weight .small) square-small
+
+  -- the expressions of the code
+  pub far-is : read (wordAt ps i) -ℤ read (jobOf ws .crude i) ≡ wordAt ps i -ℤ jobOf ws .crude i
+  far-is = ap₂ _-ℤ_ (rate-read (G .proposed .value i h)) (rate-read (G .allowed .cell i h .crude))
+
+  pub far-fits : SFits w64 (wordAt ps i -ℤ jobOf ws .crude i)
+  far-fits = small-fits (wordAt ps i -ℤ jobOf ws .crude i) far-small (lit< tt)
+
+  pub square-is : read (read (wordAt ps i) -ℤ read (jobOf ws .crude i)) *ℤ read (read (wordAt ps i) -ℤ read (jobOf ws .crude i)) ≡ squared (wordAt ps i -ℤ jobOf ws .crude i)
+  square-is = ap₂ _*ℤ_ (gives far-is far-fits) (gives far-is far-fits)
+
+  pub square-fits : SFits w64 (squared (wordAt ps i -ℤ jobOf ws .crude i))
+  square-fits = small-fits (squared (wordAt ps i -ℤ jobOf ws .crude i)) square-small (lit< tt)
+
+  pub fit-is : read (jobOf ws .weight i) *ℤ read (read (read (wordAt ps i) -ℤ read (jobOf ws .crude i)) *ℤ read (read (wordAt ps i) -ℤ read (jobOf ws .crude i)))
+      ≡ fitTermOn ws ps i
+  fit-is = ap₂ _*ℤ_ (weight-read (G .allowed .cell i h .weight)) (gives square-is square-fits)
+
+  pub fit-fits : SFits w64 (fitTermOn ws ps i)
+  fit-fits = small-fits (fitTermOn ws ps i) fit-small (lit< tt)
+
+  pub fit-inside : 7 + 4 * i < length ws
+  fit-inside = omega (arith, cells-inside (G .allowed) (G .laid))
+
+pub fit-adds : {ws ps : List ℤ} {n : ℕ} → Given ws ps → n ≡ cellsOf ws → Adds (fitTermOn ws ps) n 1000000000000000
+fit-adds {ws} {ps} {n} G e = record {
+  small = λ i l. fit-small G i (subst (λ (x : ℕ). i < x) e l);
+  room = omega (arith, G .allowed .cells-few);
+}
+
+-- ---- the squares
+
+pub squared-fits : (d : ℤ) → Difference d → SFits w64 (squared d)
+squared-fits d h = small-fits (squared d) (bound-* d d (h .small) (h .small)) (lit< tt)
+
+pub one-fits : {d : ℤ} → Difference d → SFits w64 d
+one-fits {d} h = small-fits d (h .small) (lit< tt)
+
+module _ {count : ℕ} {d : List ℤ} (h : Differences count d) where
+  pub squares-adds : Adds (λ i. squared (wordAt d i)) count 64000000000000
+  squares-adds = record { small = λ i l. bound-* (wordAt d i) (wordAt d i) (h .each i l .small) (h .each i l .small); room = omega (arith, h .few) }
+
+  pub squared-is : (i : ℕ) → i < count → {r : ℤ} → r ≡ squared (read (wordAt d i)) → r ≡ squared (wordAt d i)
+  squared-is i l e = e ∙ ap squared (gives {x = wordAt d i} refl (one-fits (h .each i l)))
+
+  pub one-call : (i : ℕ) → i < count → Difference (read (wordAt d i))
+  one-call i l = subst (λ (x : ℤ). Difference x) (sym (gives {x = wordAt d i} refl (one-fits (h .each i l)))) (h .each i l)
+
+-- ---- a list filled from its head
+
+pub filled-start : (g : ℕ → ℤ) (l : List ℤ) → Filled 0 g l l
+filled-start g l = record { long = refl; at = λ i h. absurd (N.not-suc-le-zero h); beyond = λ i h. refl }
+
+pub filled-next : {n : ℕ} {g : ℕ → ℤ} {l₀ l : List ℤ} {x : ℤ} → Filled n g l₀ l → n < length l₀ → x ≡ g n → Filled (n + 1) g l₀ (set l n x)
+filled-next {n} {g} {l₀} {l} {x} F h e = record {
+  long = length-set l n x ∙ F .long;
+  at = λ i k. go i (N.eq-or-lt-of-le (N.le-of-suc-le-suc (subst (λ (m : ℕ). i < m) (add-one n) k)));
+  beyond = λ i k. getD-set-other l n i x (pos 0) (λ q. omega arith) ∙ F .beyond i (omega arith);
+}
+  where
+    inside : n < length l
+    inside = omega (arith, F .long)
+
+    go : (i : ℕ) → (i ≡ n) ⊎ (i < n) → wordAt (set l n x) i ≡ g i
+    go i (inl q) = ap (λ (m : ℕ). wordAt (set l n x) m) q ∙ getD-set-same l n x (pos 0) inside ∙ e ∙ ap g (sym q)
+    go i (inr k) = getD-set-other l n i x (pos 0) (λ q. omega arith) ∙ F .at i k
+
+-- ---- the loss
+
+module _ {fit k rough : ℤ} (h : LossParts fit k rough) where
+  product-small : natAbs (k *ℤ rough) ≤ 7424000000000000000
+  product-small = bound-* k rough (h .k-small) (h .rough-small)
+
+  pub product-fits : SFits w64 (k *ℤ rough)
+  product-fits = small-fits (k *ℤ rough) product-small (lit< tt)
+
+  loss-parts-small : natAbs (fit +ℤ k *ℤ rough) ≤ 7544000000000000000
+  loss-parts-small = bound-+ fit (k *ℤ rough) (h .fit-small) product-small
+
+  pub joined-fits : SFits w64 (fit +ℤ k *ℤ rough)
+  joined-fits = small-fits (fit +ℤ k *ℤ rough) loss-parts-small (lit< tt)
+
+module _ {ws ps : List ℤ} {n z : ℕ} (G : Given ws ps) (en : n ≡ cellsOf ws) (ez : z ≡ jobOf ws .order) where
+  pub order-less : z < n
+  order-less = omega (arith, G .allowed .order-less)
+
+  pub differs : (i : ℕ) → i < n - z → Differs z i ps
+  differs i h = record {
+    some = omega (arith, G .allowed .order-some);
+    few = omega (arith, G .allowed .order-few);
+    inside = omega (arith, G .proposed .count, order-less);
+    rates = λ m k. G .proposed .value (i + m) (omega (arith, order-less));
+  }
+
+module _ {ws ps : List ℤ} {n z : ℕ} {d : List ℤ} (M : Measured ws ps n z d) where
+  at-order : (i : ℕ) → i < n - z → wordAt d i ≡ differenceOf z (wordAt ps) i
+  at-order i h = M .at i h ∙ sym (difference-is (jobOf ws) (wordAt ps) i) ∙ ap (λ (z : ℕ). differenceOf z (wordAt ps) i) (sym (M .z-is))
+
+  pub measured-differences : Differences (n - z) d
+  measured-differences = record {
+    few = omega (arith, M .n-is, M .z-is, M .given .allowed .cells-few, M .given .allowed .order-some);
+    inside = M .room;
+    each = λ i h. record {
+      small = subst (λ (x : ℤ). natAbs x ≤ 8000000) (sym (at-order i h)) (difference-small (differs (M .given) (M .n-is) (M .z-is) i h));
+    };
+  }
+
+  -- either there are at most 116 differences, of order 4, or each is at most 4,000,000
+  rough-at-most : natAbs (sum (n - z) (λ i. squared (wordAt d i))) ≤ 7424000000000000
+  rough-at-most = go (N.eq-or-lt-of-le (subst (λ (x : ℕ). x ≤ 4) (sym (M .z-is)) (M .given .allowed .order-few)))
+    where
+      less : z ≤ 3 → (i : ℕ) → i < n - z → natAbs (wordAt d i) ≤ 4000000
+      less k i h = subst (λ (x : ℤ). natAbs x ≤ 4000000) (sym (at-order i h)) (difference-less (differs (M .given) (M .n-is) (M .z-is) i h) k)
+
+      go : (z ≡ 4) ⊎ (z < 4) → natAbs (sum (n - z) (λ i. squared (wordAt d i))) ≤ 7424000000000000
+      go (inl e) = N.le-trans (partial-small (squares-adds measured-differences) (n - z) (N.le-refl (n - z))) (omega (arith, M .n-is, M .given .allowed .cells-few))
+      go (inr l) =
+          N.le-trans
+          (sum-bound (n - z) (λ i. squared (wordAt d i)) 16000000000000 (λ i h. bound-* (wordAt d i) (wordAt d i) (less (N.le-of-suc-le-suc l) i h) (less (N.le-of-suc-le-suc l) i h)))
+          (omega (arith, measured-differences .few))
+
+  module _ {k rough fit : ℤ} (ek : k ≡ jobOf ws .constant) (er : rough ≡ sum (n - z) (λ i. squared (wordAt d i))) (ef : fit ≡ fitOn ws ps) where
+    loss-parts : LossParts fit k rough
+    loss-parts = record {
+      fit-small =
+          subst (λ (x : ℤ). natAbs x ≤ 120000000000000000) (sym ef)
+          (N.le-trans (partial-small (fit-adds (M .given) refl) (cellsOf ws) (N.le-refl (cellsOf ws))) (omega (arith, M .given .allowed .cells-few)));
+      k-small = subst (λ (x : ℤ). natAbs x ≤ 1000) (sym ek) (M .given .allowed .constant .small);
+      rough-small = subst (λ (x : ℤ). natAbs x ≤ 7424000000000000) (sym er) rough-at-most;
+    }
+
+    fit-read : read fit ≡ fit
+    fit-read = gives refl (small-fits fit (loss-parts .fit-small) (lit< tt))
+
+    k-read : read k ≡ k
+    k-read = gives refl (small-fits k (loss-parts .k-small) (lit< tt))
+
+    rough-read : read rough ≡ rough
+    rough-read = gives refl (small-fits rough (loss-parts .rough-small) (lit< tt))
+
+    pub loss-call : LossParts (read fit) (read k) (read rough)
+    loss-call = rw (fit-read, k-read, rough-read) loss-parts
+
+    loss-is : fit +ℤ k *ℤ rough ≡ lossOn ws ps
+    unfolding lossOf
+    loss-is =
+        ap₂ _+ℤ_ ef
+        (ap₂ _*ℤ_ ek
+        (er
+        ∙ sum-cong (n - z) (λ i l. ap squared (M .at i l))
+        ∙ ap₂ (λ (n z : ℕ). sum (n - z) (λ i. squared (differenceOn ws ps i))) (M .n-is) (M .z-is)))
+
+    loss-fits : SFits w64 (lossOn ws ps)
+    loss-fits = subst (λ (x : ℤ). SFits w64 x) loss-is (joined-fits loss-parts)
+
+    loss-parts-most : natAbs (lossOn ws ps) ≤ 7600000000000000000
+    loss-parts-most = subst (λ (x : ℤ). natAbs x ≤ 7600000000000000000) loss-is (N.le-trans (loss-parts-small loss-parts) (leb→le 7544000000000000000 7600000000000000000 tt))
+
+    pub loss-result : {r : ℤ} → r ≡ read fit +ℤ read k *ℤ read rough → read r ≡ lossOn ws ps
+    loss-result {r} t = gives (t ∙ ap₂ _+ℤ_ fit-read (ap₂ _*ℤ_ k-read rough-read) ∙ loss-is) loss-fits
+
+  -- "The loss is at most 7.6·10^18."
+  pub loss-at-most : natAbs (lossOn ws ps) ≤ 7600000000000000000
+  loss-at-most = loss-parts-most {k = jobOf ws .constant} {rough = sum (n - z) (λ i. squared (wordAt d i))} {fit = fitOn ws ps} refl refl refl
+
+  pub loss-in-64 : SFits w64 (lossOn ws ps)
+  loss-in-64 = small-fits (lossOn ws ps) loss-at-most (lit< tt)

@@ -1,0 +1,245 @@
+-- What the check hands from one step to the next: the boxes, the walk over the links, and the gap that the running total decides.
+use Prim.Native.Nat.{ℕ, zero, suc, _+_, _-_, _*_, _≤_, _<_}
+use mathlib.Core.Path.{_≡_, refl, sym, ap, ap₂, subst, subst₂, _∙_}
+use mathlib.Core.Bool.{Bool, true, false, _&&_}
+use mathlib.Core.List.{List}
+use native.Mathlib.Nat as N
+use native.Mathlib.Omega.{arith}
+use borrow.Author.Tests.{lt-ltb, le-ltb, ltb-false}
+use lib.Dec.{lit<, ltb}
+use lib.IntN.{ℤ, pos, natAbs, _+ℤ_, +ℤ-idl, +ℤ-comm}
+use lib.ListN.{length, replicate, length-replicate}
+use lib.Signed.{_≤ℤ_, leZ, leZ-yes}
+use mir.Syntax.{w64}
+use mir.Val.{SFits}
+use Rattle.numbers.specs.Choice.{if_then_else_}
+use Rattle.numbers.proofs.Clash.{clash}
+use Rattle.whole.specs.Sum.{sum}
+use Rattle.whole.proofs.Fits.{small-fits, gives}
+use Rattle.jobs.specs.Words.{wordAt, cellsOf, linksOf, jobOf}
+use Rattle.measure.specs.declared.check.Verdict.{Verdict}
+use Rattle.measure.specs.declared.check.Verdict.the-variants.{Accepted, Refused}
+use Rattle.measure.specs.declared.links.Walked.{Walked}
+use Rattle.measure.specs.declared.links.Walked.the-variants.{Broken, Held}
+use Rattle.measure.specs.Gap.{gapOf}
+use Rattle.measure.specs.Check.{lowestFailing, verdictOf}
+use Rattle.measure.specs.Given.{Given, Differs, Measured, Totalling, Boxes, Weighing, Judging}
+use Rattle.measure.specs.Running.{differenceOf, Filled, Added, runOf, walkOf}
+use Rattle.measure.proofs.Places.{read, rate-read, tolerance-fits, cells-inside}
+use Rattle.measure.proofs.Table.{difference-is}
+use Rattle.measure.proofs.Losses.{differs, loss-in-64}
+use Rattle.measure.proofs.Terms.{true-T}
+use Rattle.measure.proofs.Totals.{Runs, run-least, run-small, run-fits, Tells, tells-start, run-tells, not-le-lt, lt-not-le}
+use Rattle.measure.proofs.Lowest.{Passed, lowest-all, passed-all}
+use Rattle.measure.proofs.Walks.{links-run}
+use Rattle.measure.proofs.Residuals.{cells-run}
+use Rattle.measure.specs.OnWords.{inBoxOn, holdsOn, lossOn, cellTermOn, linkTermOn, gapOn, judgedOn, verdictOn, heldOn, partsOn, walkOn}
+
+-- ---- a cell's box, in code
+
+module _ {ws ps : List ℤ} (G : Given ws ps) (i : ℕ) (h : i < cellsOf ws) where
+  pub box-words : 9 + 4 * i < length ws
+  box-words = omega (arith, cells-inside (G .allowed) (G .laid))
+
+  floor-is : leZ (read (jobOf ws .floor i)) (read (wordAt ps i)) ≡ leZ (jobOf ws .floor i) (wordAt ps i)
+  floor-is = ap₂ leZ (rate-read (G .allowed .cell i h .floor)) (rate-read (G .proposed .value i h))
+
+  pub box-high : leZ (read (jobOf ws .floor i)) (read (wordAt ps i)) ≡ true → leZ (read (wordAt ps i)) (read (jobOf ws .ceiling i)) ≡ inBoxOn ws ps i
+  box-high e =
+      ap₂ leZ (rate-read (G .proposed .value i h)) (rate-read (G .allowed .cell i h .ceiling))
+      ∙ ap (λ (a : Bool). a && leZ (wordAt ps i) (jobOf ws .ceiling i)) (sym (sym floor-is ∙ e))
+
+  pub box-low : leZ (read (jobOf ws .floor i)) (read (wordAt ps i)) ≡ false → false ≡ inBoxOn ws ps i
+  box-low e = ap (λ (a : Bool). a && leZ (wordAt ps i) (jobOf ws .ceiling i)) (sym (sym floor-is ∙ e))
+
+-- ---- 7, 8, and what is left
+
+abbrev verdictBy : (ws ps : List ℤ) → (outside broken : Bool) → Verdict
+verdictBy ws ps outside broken =
+    if outside then Refused 7 (lowestFailing (inBoxOn ws ps) (cellsOf ws)) else if broken then Refused 8 (heldOn ws ps) else judgedOn ws ps
+
+verdict-by : (ws ps : List ℤ) (a b : Bool) → ltb (lowestFailing (inBoxOn ws ps) (cellsOf ws)) (cellsOf ws) ≡ a → ltb (heldOn ws ps) (linksOf ws) ≡ b
+    → verdictBy ws ps a b ≡ verdictOn ws ps
+unfolding verdictOf
+verdict-by ws ps a b e q = ap₂ (verdictBy ws ps) (sym e) (sym q)
+
+module _ {ws ps : List ℤ} (G : Given ws ps) {n cell : ℕ} (en : n ≡ cellsOf ws) (ek : cell ≡ lowestFailing (inBoxOn ws ps) (cellsOf ws)) where
+  pub verdict-outside : cell < n → Refused 7 cell ≡ verdictOn ws ps
+  verdict-outside h =
+      ap (Refused 7) ek
+      ∙ verdict-by ws ps true (ltb (heldOn ws ps) (linksOf ws))
+      (ap₂ ltb (sym ek) (sym en) ∙ lt-ltb cell n h) refl
+
+  pub verdict-boxes : n ≤ cell → Boxes ws ps n
+  verdict-boxes h = record {
+    given = G;
+    n-is = en;
+    boxes = passed-all (inBoxOn ws ps) n (subst (λ (x : ℕ). n ≤ x) (ek ∙ ap (lowestFailing (inBoxOn ws ps)) (sym en)) h);
+  }
+
+zeros-at : (n i : ℕ) → wordAt (replicate n (pos 0)) i ≡ pos 0
+zeros-at zero i = refl
+zeros-at (suc n) zero = refl
+zeros-at (suc n) (suc i) = zeros-at n i
+
+pub zeros-weighing : {ws ps : List ℤ} {n : ℕ} → Boxes ws ps n → Weighing ws ps n (replicate 120 (pos 0)) (replicate 120 (pos 0))
+zeros-weighing {ws} {ps} {n} B = record {
+  table = B;
+  d-room = few;
+  parts-room = few;
+  zeros = zeros-at 120;
+}
+  where
+    few : n ≤ length (replicate 120 (pos 0))
+    few = rw (length-replicate 120 (pos 0)) (omega (arith, B .n-is, B .given .allowed .cells-few))
+
+-- ---- after the walk
+
+abbrev walkBy : (ws ps : List ℤ) → (broken : Bool) → Walked
+walkBy ws ps broken = if broken then Broken (heldOn ws ps) else Held (runOf (jobOf ws .tolerance) (pos 0) (linkTermOn ws ps) (linksOf ws))
+
+walk-broken-at : (ws ps : List ℤ) (l : ℕ) → walkOn ws ps ≡ Broken l → (ltb (heldOn ws ps) (linksOf ws) ≡ true) × (heldOn ws ps ≡ l)
+unfolding walkOf
+walk-broken-at ws ps l e = go (ltb (heldOn ws ps) (linksOf ws)) refl e
+  where
+    go : (o : Bool) → ltb (heldOn ws ps) (linksOf ws) ≡ o → walkBy ws ps o ≡ Broken l → (ltb (heldOn ws ps) (linksOf ws) ≡ true) × (heldOn ws ps ≡ l)
+    go true q e = (q, cc)
+    go false q e = clash (cc)
+
+walk-held-with : (ws ps : List ℤ) (t : ℤ) → walkOn ws ps ≡ Held t
+    → (ltb (heldOn ws ps) (linksOf ws) ≡ false) × (t ≡ runOf (jobOf ws .tolerance) (pos 0) (linkTermOn ws ps) (linksOf ws))
+unfolding walkOf
+walk-held-with ws ps t e = go (ltb (heldOn ws ps) (linksOf ws)) refl e
+  where
+    go : (o : Bool) → ltb (heldOn ws ps) (linksOf ws) ≡ o → walkBy ws ps o ≡ Held t
+        → (ltb (heldOn ws ps) (linksOf ws) ≡ false) × (t ≡ runOf (jobOf ws .tolerance) (pos 0) (linkTermOn ws ps) (linksOf ws))
+    go true q e = clash (cc)
+    go false q e = (q, cc)
+
+module _ {ws ps : List ℤ} {n : ℕ} {d parts : List ℤ} (W : Weighing ws ps n d parts) where
+  in-boxes : ltb (lowestFailing (inBoxOn ws ps) (cellsOf ws)) (cellsOf ws) ≡ false
+  in-boxes =
+      ap (λ (x : ℕ). ltb x (cellsOf ws)) (lowest-all (inBoxOn ws ps) (cellsOf ws) (subst (λ (x : ℕ). Passed (inBoxOn ws ps) x) (W .table .n-is) (W .table .boxes)))
+      ∙ le-ltb (cellsOf ws) (cellsOf ws) (N.le-refl (cellsOf ws))
+
+  module _ {w : Walked} (ew : w ≡ walkOn ws ps) where
+    pub verdict-broken : {l : ℕ} → w ≡ Broken l → Refused 8 l ≡ verdictOn ws ps
+    verdict-broken {l} q =
+        let b = walk-broken-at ws ps l (sym ew ∙ q) in
+        ap (Refused 8) (sym (b .1)) ∙ verdict-by ws ps false true in-boxes (b .0)
+
+    module _ {t : ℤ} (q : w ≡ Held t) where
+      held : (ltb (heldOn ws ps) (linksOf ws) ≡ false)
+          × (t ≡ runOf (jobOf ws .tolerance) (pos 0) (linkTermOn ws ps) (linksOf ws))
+      held = walk-held-with ws ps t (sym ew ∙ q)
+
+      kept : Passed (holdsOn ws ps) (linksOf ws)
+      kept = passed-all (holdsOn ws ps) (linksOf ws) (ltb-false (heldOn ws ps) (linksOf ws) (held .0))
+
+      all-held : heldOn ws ps ≡ linksOf ws
+      all-held = lowest-all (holdsOn ws ps) (linksOf ws) kept
+
+      t-read : read t ≡ t
+      t-read = gives refl (subst (λ (x : ℤ). SFits w64 x) (sym (held .1)) (run-fits (links-run (W .table .given) (linksOf ws) (N.le-refl (linksOf ws)) kept) (linksOf ws) (N.le-refl (linksOf ws))))
+
+      pub weigh-judging : {parts′ : List ℤ} → Added (partsOn ws ps (heldOn ws ps)) parts parts′
+          → Judging ws ps n (read t) d parts′
+      weigh-judging {parts′} A = record {
+        table = W .table;
+        kept = kept;
+        total-is = t-read ∙ held .1;
+        d-room = W .d-room;
+        parts-room = subst (λ (x : ℕ). n ≤ x) (sym (A .long)) (W .parts-room);
+        parts-are = λ i h.
+            A .at i ∙ ap₂ (λ (x : ℤ) (k : ℕ). x +ℤ partsOn ws ps k i) (W .zeros i) all-held
+            ∙ +ℤ-idl (partsOn ws ps (linksOf ws) i);
+      }
+
+      pub verdict-judged : {a : Verdict} → a ≡ judgedOn ws ps → a ≡ verdictOn ws ps
+      verdict-judged u = u ∙ verdict-by ws ps false false in-boxes (held .0)
+
+-- ---- 9, or the loss and the gap
+
+module _ {ws ps : List ℤ} {n : ℕ} {total : ℤ} {d parts : List ℤ} (J : Judging ws ps n total d parts) {z : ℕ} (ez : z ≡ jobOf ws .order) where
+  pub judge-differs : ((i : ℕ) → i < n - z → Differs z i ps) × (n - z ≤ length d)
+  judge-differs = (differs (J .table .given) (J .table .n-is) ez, omega (arith, J .d-room))
+
+  module _ {d′ : List ℤ} (F : Filled (n - z) (differenceOf z (wordAt ps)) d d′) where
+    pub judge-measured : Measured ws ps n z d′
+    judge-measured = record {
+      given = J .table .given;
+      n-is = J .table .n-is;
+      z-is = ez;
+      room = omega (arith, J .d-room, F .long);
+      at = λ i h. F .at i h ∙ ap (λ (z : ℕ). differenceOf z (wordAt ps) i) ez ∙ difference-is (jobOf ws) (wordAt ps) i;
+    }
+
+    linked : Runs (jobOf ws .tolerance) (pos 0) (linkTermOn ws ps) (linksOf ws)
+    linked = links-run (J .table .given) (linksOf ws) (N.le-refl (linksOf ws)) (J .kept)
+
+    total-small : natAbs total ≤ 8000000000000000000
+    total-small = subst (λ (x : ℤ). natAbs x ≤ 8000000000000000000) (sym (J .total-is)) (run-small linked (linksOf ws) (N.le-refl (linksOf ws)))
+
+    plain : Totalling ws ps n z d′ parts total
+    plain = record {
+      measured = judge-measured;
+      room = J .parts-room;
+      parts-are = J .parts-are;
+      boxes = J .table .boxes;
+      start-least = subst (λ (x : ℤ). pos 0 ≤ℤ x) (sym (J .total-is)) (run-least linked (linksOf ws) (N.le-refl (linksOf ws)));
+      start-small = total-small;
+    }
+
+    total-read : read total ≡ total
+    total-read = gives refl (small-fits total total-small (lit< tt))
+
+    pub judge-totalling : Totalling ws ps n z d′ parts (read total)
+    judge-totalling = subst (λ (x : ℤ). Totalling ws ps n z d′ parts x) (sym total-read) plain
+
+    -- with the gap's total and the tolerance that the code has
+    module _ {g t : ℤ} (eg : g ≡ runOf (jobOf ws .tolerance) (read total) (cellTermOn ws ps) (cellsOf ws))
+        (et : t ≡ jobOf ws .tolerance) where
+      celled : Runs (jobOf ws .tolerance) total (cellTermOn ws ps) (cellsOf ws)
+      celled = subst (λ (x : ℕ). Runs (jobOf ws .tolerance) total (cellTermOn ws ps) x) (J .table .n-is) (cells-run plain)
+
+      g-is : g ≡ runOf (jobOf ws .tolerance) total (cellTermOn ws ps) (cellsOf ws)
+      g-is = eg ∙ ap (λ (x : ℤ). runOf (jobOf ws .tolerance) x (cellTermOn ws ps) (cellsOf ws)) total-read
+
+      both : pos 0 +ℤ sum (linksOf ws) (linkTermOn ws ps) +ℤ sum (cellsOf ws) (cellTermOn ws ps)
+          ≡ gapOn ws ps
+      unfolding gapOf
+      both =
+          ap (λ (x : ℤ). x +ℤ sum (cellsOf ws) (cellTermOn ws ps)) (+ℤ-idl (sum (linksOf ws) (linkTermOn ws ps)))
+          ∙ +ℤ-comm (sum (linksOf ws) (linkTermOn ws ps)) (sum (cellsOf ws) (cellTermOn ws ps))
+
+      -- the total decides exactly whether the gap is at most the tolerance
+      tells : Tells (jobOf ws .tolerance) (gapOn ws ps) g
+      tells =
+          subst₂ (λ (s x : ℤ). Tells (jobOf ws .tolerance) s x) both (sym g-is)
+          (run-tells celled
+          (subst (λ (x : ℤ). Tells (jobOf ws .tolerance) (pos 0 +ℤ sum (linksOf ws) (linkTermOn ws ps)) x) (sym (J .total-is))
+          (run-tells linked (tells-start (jobOf ws .tolerance) (pos 0)) (linksOf ws) (N.le-refl (linksOf ws))))
+          (cellsOf ws) (N.le-refl (cellsOf ws)))
+
+      g-read : read g ≡ g
+      g-read = gives refl (subst (λ (x : ℤ). SFits w64 x) (sym g-is) (run-fits celled (cellsOf ws) (N.le-refl (cellsOf ws))))
+
+      test-is : leZ (read g) (read t) ≡ leZ g (jobOf ws .tolerance)
+      test-is = ap₂ leZ g-read (gives et (tolerance-fits (J .table .given .allowed .tolerance)))
+
+      abbrev judgedBy : Bool → Verdict
+      judgedBy o =
+          if o then Accepted (lossOn ws ps) (gapOn ws ps) else Refused 9 0
+
+      pub judged-accepts : {f : ℤ} → f ≡ lossOn ws ps → leZ (read g) (read t) ≡ true
+          → Accepted (read f) (read g) ≡ judgedOn ws ps
+      judged-accepts {f} q e =
+          let k : g ≡ gapOn ws ps = tells .exact (leZ-yes (true-T (sym test-is ∙ e))) in
+          ap₂ Accepted (gives q (loss-in-64 judge-measured)) (g-read ∙ k)
+          ∙ ap judgedBy (sym (ap (λ (x : ℤ). leZ x (jobOf ws .tolerance)) (sym k) ∙ sym test-is ∙ e))
+
+      pub judged-refuses : leZ (read g) (read t) ≡ false → Refused 9 0 ≡ judgedOn ws ps
+      judged-refuses e =
+          ap judgedBy
+          (sym
+          (lt-not-le (gapOn ws ps) (jobOf ws .tolerance) (tells .past (not-le-lt g (jobOf ws .tolerance) (sym test-is ∙ e)))))

@@ -1,0 +1,234 @@
+-- The walk over the links: after l links that hold, the total is that of their terms, the link parts are theirs, and s is where the next one starts.
+use Prim.Native.Nat.{ℕ, _+_, _*_, _≤_, _<_}
+use mathlib.Core.Path.{_≡_, refl, sym, ap, ap₂, subst, subst₂, _∙_}
+use mathlib.Core.Bool.{true, false}
+use mathlib.Core.List.{List}
+use native.Mathlib.Nat as N
+use native.Mathlib.Omega.{arith}
+use native.Mathlib.Numerals.{add-one}
+use borrow.Author.Tests.{lt-ltb, le-ltb}
+use lib.Dec.{lit<, leb→le}
+use lib.IntN.{ℤ, pos, natAbs, _+ℤ_, _-ℤ_, _*ℤ_}
+use lib.ListN.{length}
+use lib.Signed.{leZ, ltZ, leZ-yes, ltZ-yes, ≤ℤ-refl}
+use mir.Syntax.{w64}
+use mir.Val.{SFits, toZ, ofZ}
+use Rattle.whole.proofs.Order.{≤ℤ-sub, *ℤ-nonneg}
+use Rattle.whole.proofs.Sums.{sum-zero, sum-step, sum-bound}
+use Rattle.whole.proofs.Magnitude.{bound-+, bound-*}
+use Rattle.whole.proofs.Fits.{Holds, Adds, partial-small, small-fits, gives}
+use Rattle.jobs.specs.Words.{wordAt, countAt, linksOf, startOf, jobOf}
+use Rattle.jobs.specs.Allowed.{Upto}
+use Rattle.measure.specs.declared.links.Walked.the-variants.{Broken, Held}
+use Rattle.measure.specs.Gap.{linkSum, linkCoefficient}
+use Rattle.measure.specs.Given.{Given, LinkAt, Linked, LinkNumbers, Scattering, Settles, Walking}
+use Rattle.measure.specs.Running.{sumAt, boundAt, partAt, Added, settledOf, runOf, walkOf}
+use Rattle.measure.proofs.Places.{read, rate-read, multiplier-read, upto-nonneg, start-zero, start-suc, cells-inside, link-at}
+use Rattle.measure.proofs.Terms.{link-small, true-T}
+use Rattle.measure.proofs.Totals.{Runs, run-begins, settles-call, settles-next, not-lt-le, lt-not-le}
+use Rattle.measure.proofs.Lowest.{Passed, passed-start, passed-next, lowest-all, lowest-at}
+use Rattle.measure.proofs.Scattered.{added-none, added-by, added-then, part-small, coefficient-read}
+use Rattle.measure.specs.OnWords.{multiplierOn, holdsOn, linkTermOn, heldOn, partsOn, walkOn}
+
+-- ---- the sum of a link that starts at s
+
+module _ {ws ps : List ℤ} {s : ℕ} (L : Linked ws ps s) where
+  link-value : (m : ℕ) → m < countAt ws s → Upto 1000000 (wordAt ps (countAt ws (s + 1 + 2 * m)))
+  link-value m h = L .proposed .value (countAt ws (s + 1 + 2 * m)) (L .link .cell-inside m h)
+
+  pub link-cell-inside : (m : ℕ) → m < countAt ws s → countAt ws (s + 1 + 2 * m) < length ps
+  link-cell-inside m h = omega (arith, L .link .cell-inside m h, L .proposed .count)
+
+  pub sum-adds : Adds (λ m. wordAt ws (s + 2 + 2 * m) *ℤ wordAt ps (countAt ws (s + 1 + 2 * m))) (countAt ws s) 10000000
+  sum-adds = record {
+    small = λ m h. bound-* (wordAt ws (s + 2 + 2 * m)) (wordAt ps (countAt ws (s + 1 + 2 * m))) (L .link .coefficient m h) (link-value m h .small);
+    room = omega (arith, L .link .terms .small);
+  }
+
+  pub sum-term-fits : (m : ℕ) → m < countAt ws s → SFits w64 (wordAt ws (s + 2 + 2 * m) *ℤ wordAt ps (countAt ws (s + 1 + 2 * m)))
+  sum-term-fits m h = small-fits (wordAt ws (s + 2 + 2 * m) *ℤ wordAt ps (countAt ws (s + 1 + 2 * m))) (sum-adds .small m h) (lit< tt)
+
+  -- the product of the code, with the cell that was read
+  pub sum-term-is : (m : ℕ) → m < countAt ws s → {cell : ℕ} → cell ≡ countAt ws (s + 1 + 2 * m)
+      → read (wordAt ws (s + 2 + 2 * m)) *ℤ read (wordAt ps cell) ≡ wordAt ws (s + 2 + 2 * m) *ℤ wordAt ps (countAt ws (s + 1 + 2 * m))
+  sum-term-is m h {cell} e = ap₂ _*ℤ_ (coefficient-read (L .link) m h) (ap (λ (k : ℕ). read (wordAt ps k)) e ∙ rate-read (link-value m h))
+
+  sum-small : natAbs (sumAt ws s (wordAt ps)) ≤ 40000000
+  unfolding sumAt
+  sum-small = N.le-trans (partial-small sum-adds (countAt ws s) (N.le-refl (countAt ws s))) (omega (arith, L .link .terms .small))
+
+pub bound-read : {ws : List ℤ} {s : ℕ} → LinkAt ws s → {t : ℕ} → t ≡ countAt ws s → read (wordAt ws (s + 1 + 2 * t)) ≡ boundAt ws s
+bound-read {ws} {s} L e = gives (ap (λ (x : ℕ). wordAt ws (s + 1 + 2 * x)) e) (small-fits (boundAt ws s) (L .bound) (lit< tt))
+
+-- ---- the links of a job, by the words where they start
+
+sum-is : (ws ps : List ℤ) (l : ℕ) → sumAt ws (startOf ws l) (wordAt ps) ≡ linkSum (jobOf ws) l (wordAt ps)
+unfolding sumAt linkSum
+sum-is ws ps l = refl
+
+part-is : (ws : List ℤ) (l i : ℕ) (y : ℤ) → partAt ws (startOf ws l) y i ≡ y *ℤ linkCoefficient (jobOf ws) l i
+unfolding partAt
+part-is ws l i y = refl
+
+module _ {ws ps : List ℤ} (G : Given ws ps) where
+  numbers-at : (l : ℕ) → l < linksOf ws → LinkNumbers (multiplierOn ws ps l) (boundAt ws (startOf ws l)) (sumAt ws (startOf ws l) (wordAt ps))
+  numbers-at l h = record {
+    y-in = G .proposed .multiplier l h;
+    b-small = G .allowed .link l h .bound;
+    s-small = sum-small (record { link = link-at (G .allowed) (G .laid) l h; proposed = G .proposed });
+  }
+
+  -- the terms of links that hold
+  pub links-run : (k : ℕ) → k ≤ linksOf ws → Passed (holdsOn ws ps) k → Runs (jobOf ws .tolerance) (pos 0) (linkTermOn ws ps) k
+  links-run k h p = record {
+    tolerance-in = G .allowed .tolerance;
+    start-least = ≤ℤ-refl (pos 0);
+    start-small = leb→le 0 8000000000000000000 tt;
+    least = λ l q. *ℤ-nonneg (upto-nonneg (G .proposed .multiplier l (N.lt-of-lt-of-le q h))) (≤ℤ-sub {a = linkSum (jobOf ws) l (wordAt ps)} {b = jobOf ws .bound l} (leZ-yes (true-T (p l q))));
+    small = λ l q. small l (N.lt-of-lt-of-le q h);
+  }
+    where
+      small : (l : ℕ) → l < linksOf ws → natAbs (linkTermOn ws ps l) ≤ 7000000000000000000
+      small l q =
+          subst (λ (x : ℤ). natAbs (multiplierOn ws ps l *ℤ (jobOf ws .bound l -ℤ x)) ≤ 7000000000000000000) (sum-is ws ps l)
+          (N.le-trans (link-small (numbers-at l q)) (leb→le 1040000000000000000 7000000000000000000 tt))
+
+  -- the parts of all links
+  pub parts-small : (k i : ℕ) → k ≤ linksOf ws → natAbs (partsOn ws ps k i) ≤ 6400000000000
+  parts-small k i h =
+      N.le-trans (sum-bound k (λ l. multiplierOn ws ps l *ℤ linkCoefficient (jobOf ws) l i) 40000000000 (λ l q. one l (N.lt-of-lt-of-le q h)))
+      (omega (arith, G .allowed .links-few))
+    where
+      one : (l : ℕ) → l < linksOf ws → natAbs (multiplierOn ws ps l *ℤ linkCoefficient (jobOf ws) l i) ≤ 40000000000
+      one l q =
+          subst (λ (x : ℤ). natAbs x ≤ 40000000000) (part-is ws l i (multiplierOn ws ps l))
+          (part-small (link-at (G .allowed) (G .laid) l q) (G .proposed .multiplier l q) i)
+
+-- ---- the walk
+
+pub record Along (ws ps parts₀ : List ℤ) (l s total : ℕ) (parts : List ℤ) : Type 0 where
+  pub starts : s ≡ startOf ws l
+  pub passed : Passed (holdsOn ws ps) l
+  pub total-holds : Holds total (runOf (jobOf ws .tolerance) (pos 0) (linkTermOn ws ps) l)
+  pub parts-added : Added (partsOn ws ps l) parts₀ parts
+
+module _ {ws ps : List ℤ} {n : ℕ} {parts₀ : List ℤ} (W : Walking ws ps n parts₀) where
+  pub walk-room : 7 + 4 * n ≤ length ws
+  walk-room = omega (arith, W .n-is, cells-inside (W .given .allowed) (W .given .laid))
+
+  pub walk-start : {total : ℕ} → toZ w64 total ≡ pos 0 → Along ws ps parts₀ 0 (7 + 4 * n) total parts₀
+  walk-start e = record {
+    starts = ap (λ (x : ℕ). 7 + 4 * x) (W .n-is) ∙ sym (start-zero ws);
+    passed = passed-start (holdsOn ws ps);
+    total-holds = run-begins (jobOf ws .tolerance) (pos 0) (linkTermOn ws ps) e;
+    parts-added = added-none parts₀ (λ i. sum-zero (λ l. multiplierOn ws ps l *ℤ linkCoefficient (jobOf ws) l i));
+  }
+
+  -- at the link l
+  module _ {l s total : ℕ} {parts : List ℤ} (h : l < linksOf ws) (I : Along ws ps parts₀ l s total parts) where
+    pub walk-link : LinkAt ws s
+    walk-link = subst (λ (x : ℕ). LinkAt ws x) (sym (I .starts)) (link-at (W .given .allowed) (W .given .laid) l h)
+
+    pub walk-linked : Linked ws ps s
+    walk-linked = record { link = walk-link; proposed = W .given .proposed }
+
+    pub walk-multiplier-inside : n + l < length ps
+    walk-multiplier-inside = omega (arith, W .n-is, W .given .proposed .count)
+
+    y-is : wordAt ps (n + l) ≡ multiplierOn ws ps l
+    y-is = ap (λ (x : ℕ). wordAt ps (x + l)) (W .n-is)
+
+    y-read : read (wordAt ps (n + l)) ≡ multiplierOn ws ps l
+    y-read = ap read y-is ∙ multiplier-read (W .given .proposed .multiplier l h)
+
+    pub walk-scattering : Scattering ws s (read (wordAt ps (n + l))) parts
+    walk-scattering = record {
+      link = walk-link;
+      y-in = subst (λ (x : ℤ). Upto 1000000000 x) (sym y-read) (W .given .proposed .multiplier l h);
+      room = omega (arith, W .n-is, W .room, I .parts-added .long);
+      small = λ i q.
+          subst (λ (x : ℤ). natAbs x ≤ 7000000000000) (sym (I .parts-added .at i ∙ ap (λ (x : ℤ). x +ℤ partsOn ws ps l i) (W .zeros i)))
+          (N.le-trans (bound-+ (pos 0) (partsOn ws ps l i) (N.le-refl 0) (parts-small (W .given) l i (N.le-of-lt h))) (leb→le 6400000000000 7000000000000 tt));
+    }
+
+    -- with the sum and the bound that the code has
+    module _ {x b : ℤ} (ex : x ≡ sumAt ws s (wordAt ps)) (eb : b ≡ boundAt ws s) where
+      x-is : x ≡ linkSum (jobOf ws) l (wordAt ps)
+      x-is = ex ∙ ap (λ (k : ℕ). sumAt ws k (wordAt ps)) (I .starts) ∙ sum-is ws ps l
+
+      b-is : b ≡ jobOf ws .bound l
+      b-is = eb ∙ ap (boundAt ws) (I .starts)
+
+      numbers : LinkNumbers (multiplierOn ws ps l) b x
+      numbers =
+          subst₂ (λ (b x : ℤ). LinkNumbers (multiplierOn ws ps l) b x) (sym b-is)
+          (sym (ex ∙ ap (λ (k : ℕ). sumAt ws k (wordAt ps)) (I .starts))) (numbers-at (W .given) l h)
+
+      x-read : read x ≡ x
+      x-read = gives refl (small-fits x (numbers .s-small) (lit< tt))
+
+      b-read : read b ≡ b
+      b-read = gives refl (small-fits b (numbers .b-small) (lit< tt))
+
+      pub walk-numbers : LinkNumbers (read (wordAt ps (n + l))) (read b) (read x)
+      walk-numbers = rw (y-read, b-read, x-read) numbers
+
+      fails : ltZ (read b) (read x) ≡ true → holdsOn ws ps l ≡ false
+      fails e = subst₂ (λ (x b : ℤ). leZ x b ≡ false) x-is b-is (lt-not-le x b (ltZ-yes (true-T (sym (ap₂ ltZ b-read x-read) ∙ e))))
+
+      found : ltZ (read b) (read x) ≡ true → heldOn ws ps ≡ l
+      found e = lowest-at (holdsOn ws ps) (linksOf ws) l h (I .passed) (fails e)
+
+      pub walk-broken : ltZ (read b) (read x) ≡ true → Broken l ≡ walkOn ws ps
+      unfolding walkOf
+      walk-broken e = rw (found e, lt-ltb l (linksOf ws) h)
+
+      pub walk-broken-parts : ltZ (read b) (read x) ≡ true
+          → Added (partsOn ws ps (heldOn ws ps)) parts₀ parts
+      walk-broken-parts e = rw (found e) (I .parts-added)
+
+      -- the link holds
+      module _ (e : ltZ (read b) (read x) ≡ false) where
+        held : holdsOn ws ps l ≡ true
+        held = subst₂ (λ (x b : ℤ). leZ x b ≡ true) x-is b-is (not-lt-le x b (sym (ap₂ ltZ b-read x-read) ∙ e))
+
+        passed : Passed (holdsOn ws ps) (l + 1)
+        passed = passed-next (holdsOn ws ps) l (I .passed) held
+
+        run : Runs (jobOf ws .tolerance) (pos 0) (linkTermOn ws ps) (l + 1)
+        run = links-run (W .given) (l + 1) (omega arith) passed
+
+        module _ {tolerance : ℕ} (et : Holds tolerance (jobOf ws .tolerance)) {t : ℤ} (q : t ≡ read (wordAt ps (n + l)) *ℤ (read b -ℤ read x)) where
+          t-is : t ≡ linkTermOn ws ps l
+          t-is = q ∙ ap₂ _*ℤ_ y-read (ap₂ _-ℤ_ (b-read ∙ b-is) (x-read ∙ x-is))
+
+          pub walk-settles : Settles (toZ w64 tolerance) (toZ w64 total) (read t)
+          walk-settles = settles-call run (omega arith) (I .total-holds) (et .is) t-is
+
+          pub walk-next : {g : ℤ} {parts′ : List ℤ} {s′ : ℕ} → g ≡ settledOf (toZ w64 tolerance) (toZ w64 total) (read t)
+              → Added (partAt ws s (read (wordAt ps (n + l)))) parts parts′ → s′ ≡ s + 2 * countAt ws s + 2
+              → Along ws ps parts₀ (l + 1) s′ (ofZ w64 g) parts′
+          walk-next {g} {parts′} {s′} eg A es = record {
+            starts = es ∙ ap (λ (x : ℕ). x + 2 * countAt ws x + 2) (I .starts) ∙ sym (start-suc ws l) ∙ ap (startOf ws) (sym (add-one l));
+            passed = passed;
+            total-holds = settles-next run (omega arith) (I .total-holds) (et .is) t-is eg;
+            parts-added =
+                added-by
+                (λ i.
+                ap₂ (λ (k : ℕ) (y : ℤ). partsOn ws ps l i +ℤ partAt ws k y i) (I .starts) y-read
+                ∙ ap (λ (z : ℤ). partsOn ws ps l i +ℤ z) (part-is ws l i (multiplierOn ws ps l))
+                ∙ sym (sum-step l (λ l. multiplierOn ws ps l *ℤ linkCoefficient (jobOf ws) l i)))
+                (added-then (I .parts-added) A);
+          }
+
+  -- after the last link
+  module _ {l s total : ℕ} {parts : List ℤ} (e : l ≡ linksOf ws) (I : Along ws ps parts₀ l s total parts) where
+    all : heldOn ws ps ≡ linksOf ws
+    all = lowest-all (holdsOn ws ps) (linksOf ws) (subst (λ (x : ℕ). Passed (holdsOn ws ps) x) e (I .passed))
+
+    pub walk-held : Held (toZ w64 total) ≡ walkOn ws ps
+    unfolding walkOf
+    walk-held = rw (all, le-ltb (linksOf ws) (linksOf ws) (N.le-refl (linksOf ws))) (ap Held (I .total-holds .is ∙ ap (runOf (jobOf ws .tolerance) (pos 0) (linkTermOn ws ps)) e))
+
+    pub walk-held-parts : Added (partsOn ws ps (heldOn ws ps)) parts₀ parts
+    walk-held-parts = subst (λ (k : ℕ). Added (partsOn ws ps k) parts₀ parts) (e ∙ sym all) (I .parts-added)

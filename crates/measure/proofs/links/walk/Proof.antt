@@ -1,0 +1,125 @@
+-- After l links that hold, the total is that of their terms, the parts are theirs, and s is where the next one starts (`Along`).
+use mathlib.Core.Path.{refl}
+use Prim.Native.Nat.{_-_, _≤_}
+use native.Mathlib.Omega.{arith}
+use Rattle.whole.proofs.Fits.{Holds, gives}
+use Rattle.jobs.specs.Words.{jobOf}
+use Rattle.measure.proofs.Places.{tolerance-fits}
+use Rattle.measure.proofs.Walks.{Along, walk-broken, walk-broken-parts, walk-held, walk-held-parts, walk-link, walk-linked, walk-multiplier-inside, walk-next, walk-numbers, walk-room, walk-scattering, walk-settles, walk-start}
+use Rattle.measure.proofs.links.walk.Statement.{statement}
+use Rattle.measure.proofs.links.walk.Tie as tie
+
+abbrev Inv-loop : tie.InvT-loop
+Inv-loop words proposal n parts₀ links tolerance total₀ s₀ l₀ parts total s l = (l ≤ links) × (Holds tolerance (jobOf words .tolerance) × Along words proposal parts₀ l s total parts)
+
+abbrev μ-loop : tie.MeasureT-loop
+μ-loop words proposal n parts₀ links tolerance total₀ s₀ l₀ parts total s l = links - l
+
+links-of-requires : tie.Need-links-of-requires Inv-loop μ-loop
+links-of-requires c κs = (c .pre .given .allowed, (c .pre .given .laid, c .pre .n-is))
+
+tolerance-of-requires : tie.Need-tolerance-of-requires Inv-loop μ-loop
+tolerance-of-requires c κs = (c .before .pre .given .allowed, c .before .pre .given .laid)
+
+mul-s : tie.Need-mul-s Inv-loop μ-loop
+mul-s c = omega (arith, walk-room (c .before .before .pre))
+
+add-s : tie.Need-add-s Inv-loop μ-loop
+add-s c = omega (arith, walk-room (c .before .before .pre))
+
+loop-holds : tie.Need-loop-holds Inv-loop μ-loop
+loop-holds c = (omega arith, (record { is = gives (c .tolerance-of .ensures) (tolerance-fits (c .before .before .pre .given .allowed .tolerance)) }, walk-start (c .before .before .pre) refl))
+
+add-at : tie.Need-add-at Inv-loop μ-loop
+add-at c = omega (arith, walk-multiplier-inside (c .before .before .before .before .pre) (omega (arith, c .before .before .before .links-of .ensures)) (c .before .loop .inv .1 .1))
+
+mul-y : tie.Need-mul-y Inv-loop μ-loop
+mul-y c = omega (arith, walk-multiplier-inside (c .before .before .before .before .pre) (omega (arith, c .before .before .before .links-of .ensures)) (c .before .loop .inv .1 .1))
+
+shared-slice-copy-out-y : tie.Need-shared-slice-copy-out-y Inv-loop μ-loop
+shared-slice-copy-out-y c = walk-multiplier-inside (c .before .before .before .before .pre) (omega (arith, c .before .before .before .links-of .ensures)) (c .before .loop .inv .1 .1)
+
+link-sum-requires : tie.Need-link-sum-requires Inv-loop μ-loop
+link-sum-requires c κs = let t = c .before in
+    walk-linked (t .before .before .before .before .pre) (omega (arith, t .before .before .before .links-of .ensures)) (t .before .loop .inv .1 .1)
+
+bound-of-requires : tie.Need-bound-of-requires Inv-loop μ-loop
+bound-of-requires c κs = let t = c .before .before in
+    walk-link (t .before .before .before .before .pre) (omega (arith, t .before .before .before .links-of .ensures)) (t .before .loop .inv .1 .1)
+
+same-length : tie.Need-same-length Inv-loop μ-loop
+same-length c = let t = c .before .before .before .before in
+    t .before .loop .inv .1 .1 .parts-added .long
+
+returns : tie.Need-returns Inv-loop μ-loop
+returns c = let t = c .before .before .before .before in (
+  walk-broken (t .before .before .before .before .pre) (omega (arith, t .before .before .before .links-of .ensures)) (t .before .loop .inv .1 .1) (c .before .before .link-sum .ensures) (c .before .bound-of .ensures) (c .if1 .taken),
+  walk-broken-parts (t .before .before .before .before .pre) (omega (arith, t .before .before .before .links-of .ensures)) (t .before .loop .inv .1 .1) (c .before .before .link-sum .ensures) (c .before .bound-of .ensures) (c .if1 .taken),
+)
+
+scatter-requires : tie.Need-scatter-requires Inv-loop μ-loop
+scatter-requires c κs = let t = c .before .before .before .before .before in
+    walk-scattering (t .before .before .before .before .pre) (omega (arith, t .before .before .before .links-of .ensures)) (t .before .loop .inv .1 .1)
+
+link-term-requires : tie.Need-link-term-requires Inv-loop μ-loop
+link-term-requires c κs = let t = c .before .before .before .before .before .before .before in
+    walk-numbers (t .before .before .before .before .pre) (omega (arith, t .before .before .before .links-of .ensures)) (t .before .loop .inv .1 .1) (c .before .before .before .before .before .link-sum .ensures) (c .before .before .before .before .bound-of .ensures)
+
+settled-requires : tie.Need-settled-requires Inv-loop μ-loop
+settled-requires c κs = let t = c .before .before .before .before .before .before .before .before in
+    walk-settles (t .before .before .before .before .pre) (omega (arith, t .before .before .before .links-of .ensures)) (t .before .loop .inv .1 .1) (c .before .before .before .before .before .before .link-sum .ensures) (c .before .before .before .before .before .bound-of .ensures) (c .before .before .before .before .if1 .left)
+    (t .before .loop .inv .1 .0) (c .link-term .ensures)
+
+next-start-requires : tie.Need-next-start-requires Inv-loop μ-loop
+next-start-requires c κs = let t = c .before .before .before .before .before .before .before .before .before in
+    walk-link (t .before .before .before .before .pre) (omega (arith, t .before .before .before .links-of .ensures)) (t .before .loop .inv .1 .1)
+
+add-l : tie.Need-add-l Inv-loop μ-loop
+add-l c = omega arith
+
+loop-less : tie.Need-loop-less Inv-loop μ-loop
+loop-less c = omega arith
+
+loop-again : tie.Need-loop-again Inv-loop μ-loop
+loop-again c = let t = c .before .before .before .before .before .before .before .before .before .before in (
+  omega arith,
+  (
+    t .before .loop .inv .1 .0,
+    walk-next (t .before .before .before .before .pre) (omega (arith, t .before .before .before .links-of .ensures)) (t .before .loop .inv .1 .1) (c .before .before .before .before .before .before .before .before .link-sum .ensures) (c .before .before .before .before .before .before .before .bound-of .ensures) (c .before .before .before .before .before .before .if1 .left)
+        (t .before .loop .inv .1 .0) (c .before .before .link-term .ensures) (c .before .settled .ensures) (c .before .before .before .before .scatter .ensures) (c .next-start .ensures),
+  ),
+)
+
+same-length-2 : tie.Need-same-length-2 Inv-loop μ-loop
+same-length-2 c = c .before .loop .inv .1 .1 .parts-added .long
+
+returns-2 : tie.Need-returns-2 Inv-loop μ-loop
+returns-2 c = (walk-held (c .before .before .before .before .pre) (omega (arith, c .before .before .before .links-of .ensures)) (c .before .loop .inv .1 .1), walk-held-parts (c .before .before .before .before .pre) (omega (arith, c .before .before .before .links-of .ensures)) (c .before .loop .inv .1 .1))
+
+pub walk-spec : {M : Type 1} → statement M
+walk-spec =
+    tie.close
+    (tie.spec
+    Inv-loop
+    μ-loop
+    links-of-requires
+    tolerance-of-requires
+    mul-s
+    add-s
+    loop-holds
+    add-at
+    mul-y
+    shared-slice-copy-out-y
+    link-sum-requires
+    bound-of-requires
+    same-length
+    returns
+    scatter-requires
+    link-term-requires
+    settled-requires
+    next-start-requires
+    add-l
+    loop-less
+    loop-again
+    same-length-2
+    returns-2)

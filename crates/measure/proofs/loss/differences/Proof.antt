@@ -1,0 +1,61 @@
+-- The differences passed stand at the head, the rest is untouched.
+use mathlib.Core.Path.{_≡_}
+use Prim.Native.Nat.{_-_, _≤_}
+use native.Mathlib.Omega.{arith}
+use Rattle.whole.proofs.Fits.{gives}
+use Rattle.whole.proofs.Solve.{at}
+use Rattle.jobs.specs.Words.{wordAt}
+use Rattle.measure.proofs.Losses.{filled-next, filled-start}
+use Rattle.measure.proofs.Table.{difference-fits}
+use Rattle.measure.specs.Running.{Filled, differenceOf}
+use Rattle.measure.proofs.loss.differences.Statement.{statement}
+use Rattle.measure.proofs.loss.differences.Tie as tie
+
+abbrev Inv-loop : tie.InvT-loop
+Inv-loop values z count out₀ i₀ out i = (i ≤ count) × Filled i (differenceOf z (wordAt values)) out₀ out
+
+abbrev μ-loop : tie.MeasureT-loop
+μ-loop values z count out₀ i₀ out i = count - i
+
+loop-holds : tie.Need-loop-holds Inv-loop μ-loop
+loop-holds c = (omega arith, filled-start _ _)
+
+difference-at-requires : tie.Need-difference-at-requires Inv-loop μ-loop
+difference-at-requires c κs = c .before .before .pre .0 (c .before .loop .i) (omega arith)
+
+mul-t8 : tie.Need-mul-t8 Inv-loop μ-loop
+mul-t8 c = omega arith
+
+slice-set-from-out : tie.Need-slice-set-from-out Inv-loop μ-loop
+slice-set-from-out c = omega (arith, c .before .before .before .pre .1, c .before .before .loop .inv .1 .long)
+
+add-i : tie.Need-add-i Inv-loop μ-loop
+add-i c = omega arith
+
+loop-less : tie.Need-loop-less Inv-loop μ-loop
+loop-less c = omega arith
+
+loop-again : tie.Need-loop-again Inv-loop μ-loop
+loop-again c = (omega arith, filled-next (c .before .before .loop .inv .1) (omega (arith, c .before .before .before .pre .1)) (gives (c .difference-at .ensures) (difference-fits (c .before .before .before .pre .0 (c .before .before .loop .i) (omega arith)))))
+
+same-length : tie.Need-same-length Inv-loop μ-loop
+same-length c = c .before .loop .inv .1 .long
+
+returns : tie.Need-returns Inv-loop μ-loop
+returns c = let e : c .before .loop .i ≡ c .before .before .args .count = omega arith in rw e at (c .before .loop .inv .1)
+
+pub differences-spec : {M : Type 1} → statement M
+differences-spec =
+    tie.close
+    (tie.spec
+    Inv-loop
+    μ-loop
+    loop-holds
+    difference-at-requires
+    mul-t8
+    slice-set-from-out
+    add-i
+    loop-less
+    loop-again
+    same-length
+    returns)

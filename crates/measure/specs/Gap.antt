@@ -1,0 +1,43 @@
+-- Document 01, "Loss and gap": residuals, terms and the gap of a table v with multipliers y.
+use Prim.Native.Nat.{ℕ}
+use lib.IntN.{ℤ, pos, _+ℤ_, _-ℤ_, _*ℤ_}
+use Rattle.whole.specs.Sum.{sum, coefficientOf}
+use Rattle.certificate.specs.Terms.{cellTerm}
+use Rattle.certificate.specs.Differences.{difference, returned}
+use Rattle.jobs.specs.Job.{Job}
+use Rattle.measure.specs.Loss.{familyOf}
+
+-- The sum of the link l over a table, and the coefficient of the cell i in it, 0 where the link does not name the cell.
+unfoldable pub linkSum : Job → (l : ℕ) → (v : ℕ → ℤ) → ℤ
+linkSum j l v = sum (j .terms l) (λ m. j .coefficient l m *ℤ v (j .cell l m))
+
+abbrev pub linkCoefficient : Job → (l i : ℕ) → ℤ
+linkCoefficient j l i = coefficientOf (j .terms l) (j .cell l) (j .coefficient l) i
+
+-- "2k times the sum, over every D that uses cell i, of D times that cell's s"
+abbrev pub smoothPart : Job → (v : ℕ → ℤ) → (i : ℕ) → ℤ
+smoothPart j v i = pos 2 *ℤ j .constant *ℤ returned (familyOf j) (difference (familyOf j) v) i
+
+-- "the sum over links naming cell i of multiplier times coefficient"
+abbrev pub linkPart : Job → (y : ℕ → ℤ) → (i : ℕ) → ℤ
+linkPart j y i = sum (j .links) (λ l. y l *ℤ linkCoefficient j l i)
+
+-- "Residual of cell i: r = 2w(v-u) + 2k times … + …"
+unfoldable pub residualOf : Job → (v y : ℕ → ℤ) → (i : ℕ) → ℤ
+residualOf j v y i = pos 2 *ℤ j .weight i *ℤ (v i -ℤ j .crude i) +ℤ smoothPart j v i +ℤ linkPart j y i
+
+-- "if w = 0 or r lies outside -2,000,000,000..2,000,000,000, the box term"
+abbrev pub limit : ℕ
+limit = 2000000000
+
+-- "Cell term": the rule stands in `cellTerm`.
+abbrev pub cellTermOf : Job → (v y : ℕ → ℤ) → (i : ℕ) → ℤ
+cellTermOf j v y i = cellTerm limit (j .weight i) (residualOf j v y i) (j .floor i) (j .ceiling i) (v i)
+
+-- "Link term: multiplier times (b minus the link's sum)"
+abbrev pub linkTermOf : Job → (v y : ℕ → ℤ) → (l : ℕ) → ℤ
+linkTermOf j v y l = y l *ℤ (j .bound l -ℤ linkSum j l v)
+
+-- "Gap G = sum of all cell terms and link terms."
+unfoldable pub gapOf : Job → (v y : ℕ → ℤ) → ℤ
+gapOf j v y = sum (j .cells) (cellTermOf j v y) +ℤ sum (j .links) (linkTermOf j v y)

@@ -1,0 +1,69 @@
+-- What the steps inside the check come to: differences and gathered differences of a plain order, parts added to a lent list, and the running total
+-- that is settled once it passes the tolerance.
+use Prim.Native.Nat.{ℕ, zero, suc, _+_, _*_, _≤_, _<_}
+use mathlib.Core.Path.{_≡_}
+use mathlib.Core.List.{List}
+use lib.Dec.{ltb}
+use lib.IntN.{ℤ, pos, _+ℤ_, _*ℤ_}
+use lib.ListN.{length}
+use lib.Signed.{leZ}
+use Rattle.numbers.specs.Choice.{if_then_else_}
+use Rattle.whole.specs.Sum.{sum, coefficientOf}
+use Rattle.certificate.specs.Differences.{earlier}
+use Rattle.jobs.specs.Job.{Job}
+use Rattle.jobs.specs.Words.{wordAt, countAt}
+use Rattle.measure.specs.declared.links.Walked.{Walked}
+use Rattle.measure.specs.declared.links.Walked.the-variants.{Broken, Held}
+use Rattle.rows.specs.Rows.{rowOf}
+use Rattle.measure.specs.Gap.{linkCoefficient, linkTermOf}
+use Rattle.measure.specs.Check.{lowestFailing, holds}
+
+-- D at i, of the order z.
+unfoldable pub differenceOf : (z : ℕ) → (v : ℕ → ℤ) → (i : ℕ) → ℤ
+differenceOf z v i = sum (suc z) (λ m. rowOf z m *ℤ v (i + m))
+
+-- The sum, over every one of `count` differences D of order z that uses the cell i, of D times that cell's s.
+unfoldable pub gatheredOf : (z count : ℕ) → (D : ℕ → ℤ) → (i : ℕ) → ℤ
+gatheredOf z count D i = sum (suc z) (λ m. rowOf z m *ℤ earlier D count i m)
+
+-- The first n words of a list are set by a rule, and the others stay.
+pub record Filled (n : ℕ) (rule : ℕ → ℤ) (before after : List ℤ) : Type 0 where
+  pub long : length after ≡ length before
+  pub at : (i : ℕ) → i < n → wordAt after i ≡ rule i
+  pub beyond : (i : ℕ) → n ≤ i → wordAt after i ≡ wordAt before i
+
+-- A number is added to each word of a list.
+pub record Added (part : ℕ → ℤ) (before after : List ℤ) : Type 0 where
+  pub long : length after ≡ length before
+  pub at : (i : ℕ) → wordAt after i ≡ wordAt before i +ℤ part i
+
+-- One term more, unless the total is past the tolerance T already.
+abbrev pub settledOf : (T total t : ℤ) → ℤ
+settledOf T total t = if leZ total T then total +ℤ t else total
+
+-- The settled total of n terms, from a start.
+unfoldable pub runOf : (T start : ℤ) → (t : ℕ → ℤ) → (n : ℕ) → ℤ
+runOf T start t zero = start
+runOf T start t (suc n) = settledOf T (runOf T start t n) (t n)
+
+-- By the words of a link that starts at s: its sum, its bound, and what it adds to the cell i with the multiplier y.
+unfoldable pub sumAt : List ℤ → (s : ℕ) → (v : ℕ → ℤ) → ℤ
+sumAt ws s v = sum (countAt ws s) (λ m. wordAt ws (s + 2 + 2 * m) *ℤ v (countAt ws (s + 1 + 2 * m)))
+
+abbrev pub boundAt : List ℤ → (s : ℕ) → ℤ
+boundAt ws s = wordAt ws (s + 1 + 2 * countAt ws s)
+
+unfoldable pub partAt : List ℤ → (s : ℕ) → (y : ℤ) → (i : ℕ) → ℤ
+partAt ws s y i = y *ℤ coefficientOf (countAt ws s) (λ m. countAt ws (s + 1 + 2 * m)) (λ m. wordAt ws (s + 2 + 2 * m)) i
+
+-- The links below the lowest broken one ..
+abbrev pub heldLinks : Job → (v : ℕ → ℤ) → ℕ
+heldLinks j v = lowestFailing (holds j v) (j .links)
+
+-- .. what the first k links add to the cell i ..
+abbrev pub partsOf : Job → (y : ℕ → ℤ) → (k i : ℕ) → ℤ
+partsOf j y k i = sum k (λ l. y l *ℤ linkCoefficient j l i)
+
+-- .. and what a walk over the links answers.
+unfoldable pub walkOf : Job → (v y : ℕ → ℤ) → Walked
+walkOf j v y = if ltb (heldLinks j v) (j .links) then Broken (heldLinks j v) else Held (runOf (j .tolerance) (pos 0) (linkTermOf j v y) (j .links))

@@ -1,0 +1,135 @@
+// The check of a proposal (document 01, "Order"): the job pack's refusals, then 6, values in their boxes (7), links kept (8), and a gap of at
+// most the tolerance (9).
+use crate::boxes;
+use crate::gap;
+use crate::links;
+use crate::links::Walked;
+use crate::loss;
+use crate::words;
+use fields::Field;
+use jobs::proposal::read_proposal;
+use packs::Outcome;
+ghost use mathlib.Core.Path.{_≡_};
+ghost use Prim.Native.Nat.{_≤_, _<_};
+ghost use lib.ListN.{length, take};
+ghost use Rattle.jobs.specs.Words.{jobOf};
+ghost use Rattle.jobs.specs.Allowed.{Allowed, Laid};
+ghost use Rattle.measure.specs.Check.{proposalVerdict, checkOf};
+ghost use Rattle.measure.specs.Given.{Given, Weighing, Boxes, Judging};
+ghost use Rattle.measure.specs.OnWords.{judgedOn, verdictOn};
+
+// What the check answers: the table is accepted with its loss and gap, or refused with a number and a place.
+pub enum Verdict {
+    Accepted { loss: i64, gap: i64 },
+    Refused { number: u64, place: usize },
+}
+
+// The verdict on a table that meets its boxes and links, from its link parts and the total of its link terms.
+fn judged(
+    words: &[i64],
+    proposal: &[i64],
+    n: usize,
+    total: i64,
+    d: &mut [i64],
+    parts: &[i64],
+) -> Verdict
+    requires { ⌜ Judging (now words) (now proposal) n total (now d) (now parts) ⌝ }
+    ensures { λ a. ⌜ a ≡ judgedOn (now (words .entry)) (now (proposal .entry)) ⌝ }
+{
+    let z = words::order_of(words);
+    loss::differences(proposal, z, n - z, d);
+    let g = gap::total_of(words, proposal, n, z, d, parts, total);
+    let t = words::tolerance_of(words);
+    if g <= t {
+        let f = loss::loss(words, proposal, n, z, d);
+        return Verdict::Accepted { loss: f, gap: g };
+    }
+    Verdict::Refused {
+        number: 9,
+        place: 0,
+    }
+}
+
+// The verdict on a table in its boxes; d and parts are lent for the differences and the link parts.
+fn weighed(words: &[i64], proposal: &[i64], n: usize, d: &mut [i64], parts: &mut [i64]) -> Verdict
+    requires { ⌜ Weighing (now words) (now proposal) n (now d) (now parts) ⌝ }
+    ensures { λ a. ⌜ a ≡ verdictOn (now (words .entry)) (now (proposal .entry)) ⌝ }
+{
+    let walked = links::walk(words, proposal, n, parts);
+    match walked {
+        Walked::Broken(link) => Verdict::Refused {
+            number: 8,
+            place: link,
+        },
+        Walked::Held(total) => judged(words, proposal, n, total, d, parts),
+    }
+}
+
+// The same, with room of its own.
+fn weighed_alone(words: &[i64], proposal: &[i64], n: usize) -> Verdict
+    requires { ⌜ Boxes (now words) (now proposal) n ⌝ }
+    ensures { λ a. ⌜ a ≡ verdictOn (now (words .entry)) (now (proposal .entry)) ⌝ }
+{
+    let mut d = [0i64; 120];
+    let mut parts = [0i64; 120];
+    weighed(words, proposal, n, &mut d, &mut parts)
+}
+
+// The verdict on a proposal's words, n values and then the multipliers, against a job's words.
+pub fn check_words(words: &[i64], proposal: &[i64]) -> Verdict
+    requires { ⌜ Given (now words) (now proposal) ⌝ }
+    ensures { λ a. ⌜ a ≡ verdictOn (now (words .entry)) (now (proposal .entry)) ⌝ }
+{
+    let n = words::cells_of(words);
+    let cell = boxes::lowest_outside(words, proposal, n);
+    if cell < n {
+        return Verdict::Refused {
+            number: 7,
+            place: cell,
+        };
+    }
+    weighed_alone(words, proposal, n)
+}
+
+// The verdict on the first k words.
+fn check_first(words: &[i64], proposal: &[i64], k: usize) -> Verdict
+    requires { ⌜ (k ≤ length (now proposal)) × Given (now words) (take k (now proposal)) ⌝ }
+    ensures { λ a. ⌜ a ≡ verdictOn (now (words .entry)) (take k (now (proposal .entry))) ⌝ }
+{
+    check_words(words, &proposal[0..k])
+}
+
+// The verdict on a proposal pack, against a job's words.
+fn check_pack(words: &[i64], proposal: &[u8]) -> Verdict
+    requires { ⌜ Allowed (jobOf (now words)) × Laid (now words) ⌝ }
+    ensures { λ a. ⌜ a ≡ proposalVerdict (jobOf (now (words .entry))) (now (proposal .entry)) ⌝ }
+{
+    let n = words::cells_of(words);
+    let links = words::links_of(words, n);
+    let mut values = [0i64; 280];
+    let read = read_proposal(proposal, n as u64, links as u64, &mut values);
+    match read {
+        Outcome::Done(k) => check_first(words, &values, k),
+        Outcome::Refused(number, place) => Verdict::Refused { number, place },
+    }
+}
+
+// The verdict on a proposal pack, against the first k words.
+fn check_part(words: &[i64], k: usize, proposal: &[u8]) -> Verdict
+    requires { ⌜ (k ≤ length (now words)) × (Allowed (jobOf (take k (now words))) × Laid (take k (now words))) ⌝ }
+    ensures { λ a. ⌜ a ≡ proposalVerdict (jobOf (take k (now (words .entry)))) (now (proposal .entry)) ⌝ }
+{
+    check_pack(&words[0..k], proposal)
+}
+
+// The check of a proposal pack against a job pack.
+pub fn check(job: &[u8], proposal: &[u8]) -> Verdict
+    ensures { λ r. ⌜ r ≡ checkOf (now (job .entry)) (now (proposal .entry)) ⌝ }
+{
+    let mut words = [0i64; 2087];
+    let read = packs::reading::read(job, Field::Society, &mut words);
+    match read {
+        Outcome::Done(k) => check_part(&words, k, proposal),
+        Outcome::Refused(number, place) => Verdict::Refused { number, place },
+    }
+}

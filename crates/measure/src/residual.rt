@@ -1,0 +1,75 @@
+// The residual of a cell (document 01, "Loss and gap"), from the differences that use the cell and the link part.
+use crate::words;
+ghost use mathlib.Core.Path.{_≡_};
+ghost use Prim.Native.Nat.{_-_, _≤_};
+ghost use lib.IntN.{pos, _+ℤ_, _-ℤ_, _*ℤ_};
+ghost use Rattle.certificate.specs.Differences.{earlier};
+ghost use Rattle.jobs.specs.Words.{wordAt};
+ghost use Rattle.rows.specs.Rows.{rowOf};
+ghost use Rattle.measure.specs.Given.{Differences, Slopes, ResidualAt};
+ghost use Rattle.measure.specs.Running.{gatheredOf};
+ghost use Rattle.measure.specs.OnWords.{residualWith};
+
+// The difference at i - m, 0 where there is none.
+fn earlier_of(d: &[i64], count: usize, i: usize, m: usize) -> i64
+    requires { ⌜ Differences count (now d) ⌝ }
+    ensures { λ r. ⌜ r ≡ earlier (wordAt (now (d .entry))) count i m ⌝ }
+{
+    if m <= i {
+        let f = i - m;
+        if f < count {
+            return d[f];
+        }
+        return 0;
+    }
+    0
+}
+
+// s(m) times the difference at i - m.
+fn gathered_term(d: &[i64], count: usize, z: usize, i: usize, m: usize) -> i64
+    requires { ⌜ Differences count (now d) × ((z ≤ 4) × (m ≤ z)) ⌝ }
+    ensures { λ r. ⌜ r ≡ rowOf z m *ℤ earlier (wordAt (now (d .entry))) count i m ⌝ }
+{
+    rows::row_at(z, m) * earlier_of(d, count, i, m)
+}
+
+// The sum, over every difference that uses the cell i, of the difference times that cell's s.
+fn gathered_at(d: &[i64], count: usize, z: usize, i: usize) -> i64
+    requires { ⌜ Differences count (now d) × (z ≤ 4) ⌝ }
+    ensures { λ r. ⌜ r ≡ gatheredOf z count (wordAt (now (d .entry))) i ⌝ }
+{
+    let mut total: i64 = 0;
+    let mut m: usize = 0;
+    while m <= z {
+        total += gathered_term(d, count, z, i, m);
+        m += 1;
+    }
+    total
+}
+
+// 2w(v - u) + 2ks + part
+fn residual_from(w: i64, v: i64, u: i64, k: i64, s: i64, part: i64) -> i64
+    requires { ⌜ Slopes w v u k s part ⌝ }
+    ensures { λ r. ⌜ r ≡ pos 2 *ℤ w *ℤ (v -ℤ u) +ℤ pos 2 *ℤ k *ℤ s +ℤ part ⌝ }
+{
+    2 * w * (v - u) + 2 * k * s + part
+}
+
+// The residual of the cell i, whose link part is `part`, from the differences d.
+pub fn residual_at(
+    words: &[i64],
+    values: &[i64],
+    n: usize,
+    z: usize,
+    d: &[i64],
+    i: usize,
+    part: i64,
+) -> i64
+    requires { ⌜ ResidualAt (now words) (now values) n z (now d) i part ⌝ }
+    ensures { λ r. ⌜ r ≡ residualWith (now (words .entry)) (now (values .entry)) i part ⌝ }
+{
+    let k = words::constant_of(words);
+    let s = gathered_at(d, n - z, z, i);
+    let base = 4 * i;
+    residual_from(words[7 + base], values[i], words[6 + base], k, s, part)
+}

@@ -1,0 +1,51 @@
+-- The rule of the difference rows, by one computed test of the whole table each: coefficients of 6 at most, rows that come to 0, and magnitudes that
+-- come to 16 at most.
+use Prim.Native.Nat.{ℕ, zero, suc, _≤_}
+use mathlib.Core.Path.{_≡_, ap}
+use mathlib.Core.Bool.{Bool, false}
+use native.Mathlib.Omega.{arith}
+use lib.Dec.{T, lit<, leb, leb→le, eqb, eqb→eq}
+use lib.IntN.{ℤ, pos, negsuc, natAbs}
+use mir.Syntax.{w64}
+use mir.Val.{SFits}
+use Rattle.whole.specs.Sum.{sum, sumℕ}
+use Rattle.whole.proofs.Fits.{small-fits}
+use Rattle.whole.proofs.Tested.{below, below-at}
+use Rattle.rows.specs.Rows.{rowOf}
+
+small-row : ℕ → Bool
+small-row z = below 5 (λ m. leb (natAbs (rowOf z m)) 6)
+
+pub row-small : (z m : ℕ) → z ≤ 4 → m ≤ 4 → natAbs (rowOf z m) ≤ 6
+unfolding small-row rowOf
+row-small z m h k =
+    leb→le (natAbs (rowOf z m)) 6
+    (below-at 5 (λ m. leb (natAbs (rowOf z m)) 6) (below-at 5 small-row tt z (omega arith)) m (omega arith))
+
+abbrev isZero : ℤ → Bool
+isZero (pos n) = eqb n 0
+isZero (negsuc n) = false
+
+zero-is : (x : ℤ) → T (isZero x) → x ≡ pos 0
+zero-is (pos n) t = ap pos (eqb→eq n 0 t)
+zero-is (negsuc n) t = absurd t
+
+-- a row of an order from 1 on comes to 0
+pub row-sum : (z : ℕ) → 1 ≤ z → z ≤ 4 → sum (suc z) (rowOf z) ≡ pos 0
+unfolding rowOf sum
+row-sum zero h k = absurd (omega arith)
+row-sum (suc z) h k = zero-is (sum (suc (suc z)) (rowOf (suc z))) (below-at 4 (λ z. isZero (sum (suc (suc z)) (rowOf (suc z)))) tt z (omega arith))
+
+pub row-size : (z : ℕ) → z ≤ 4 → sumℕ (suc z) (λ m. natAbs (rowOf z m)) ≤ 16
+unfolding rowOf sumℕ
+row-size z h =
+    leb→le (sumℕ (suc z) (λ m. natAbs (rowOf z m))) 16 (below-at 5 (λ z. leb (sumℕ (suc z) (λ m. natAbs (rowOf z m))) 16) tt z (omega arith))
+
+-- and below order 4 to 8
+pub less-size : (z : ℕ) → z ≤ 3 → sumℕ (suc z) (λ m. natAbs (rowOf z m)) ≤ 8
+unfolding rowOf sumℕ
+less-size z h =
+    leb→le (sumℕ (suc z) (λ m. natAbs (rowOf z m))) 8 (below-at 4 (λ z. leb (sumℕ (suc z) (λ m. natAbs (rowOf z m))) 8) tt z (omega arith))
+
+pub row-fits : (z m : ℕ) → z ≤ 4 → m ≤ 4 → SFits w64 (rowOf z m)
+row-fits z m h k = small-fits (rowOf z m) (row-small z m h k) (lit< tt)

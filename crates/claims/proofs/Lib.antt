@@ -7,3 +7,13 @@ pub mod Terms
 pub mod Best
 pub mod Worked
 pub mod Promises
+pub mod Tables
+pub mod Laid
+pub mod EightLists
+pub mod LastKept
+pub mod NoNeighbour
+pub mod Refusals
+pub mod Fetched
+pub mod Layouts
+pub mod ShelfPromises
+pub mod House

@@ -4,3 +4,9 @@ pub mod Meets
 pub mod Verdicts
 pub mod Worked
 pub mod Promises
+pub mod Lists
+pub mod Heard
+pub mod LastKept
+pub mod Fetched
+pub mod ShelfPromises
+pub mod HousePromises

@@ -1,0 +1,150 @@
+-- Eight lists (document 01, "The shelf"): from a cleared shelf, any sequence of calls answers as eight separate lists of at most four tables would.
+-- Why: each span is its list laid out in order, then zeros; every call keeps that so, and says what the list says.
+use mathlib.Core.Path.{_≡_, refl, sym, ap, _∙_, subst}
+use mathlib.Core.Bool.{Bool, true, false, cond}
+use mathlib.Core.List.{List, [], _∷_, _++_}
+use Prim.Native.Nat.{ℕ, zero, suc, _+_, _*_, _≤_, zero-le}
+use native.Mathlib.Nat.{mul-suc, mul-zero}
+use native.Mathlib.Omega.{arith}
+use lib.Dec.{eqb, leb}
+use lib.ListN.{length, replicate, length-append, length-replicate, replicate-append-replicate}
+use borrow.Author.Tests.{leb-true, eqb-true, eqb-false}
+use Rattle.shelf.specs.Slots.{Reply, refusal, keptIn, forgotIn, forgetReply, fetchIn}
+use Rattle.shelf.specs.Checked.{Checked, checkedOf, accepted}
+use Rattle.shelf.specs.Shelf.{Layout, slotFrom, spanOf, sizeOf, onSociety, fromSociety, keptShelf, fetchReply, forgotShelf, forgotReply, cleared}
+use Rattle.shelf.specs.Calls.{Call, keep, fetch, forget, clear, wholeAfter, wholeSaid, after, said, runOf}
+use Rattle.shelf.proofs.Moves.{slot-length}
+use Rattle.shelf.proofs.Lengths.{on-whole, from-whole}
+use Rattle.shelf.proofs.Sound.{Sound, accepted-sound}
+use Rattle.shelf.proofs.Spans.{Lawful, society-length, own, other, cleared-length, cleared-span}
+use Rattle.claims.specs.Lists.{Table, tableFrom, removed, kept, fetched, forgotten, Lists, onList, fromList, nothing, keptLists, listsAfter, listsSay, listsRun}
+use Rattle.claims.proofs.Tables.{all-kept, all-removed, few-kept, few-removed}
+use Rattle.claims.proofs.Laid.{slot, laid, Fits, AllFit, removed-laid, forgotten-laid, fetched-laid, kept-laid}
+
+-- a span of c slots of w words is the list laid out
+pub record Held (w c : ℕ) (ts : List Table) (s : List ℕ) : Type 0 where
+  pub words : s ≡ laid w c ts
+  pub few : length ts ≤ c
+  pub fit : AllFit ts
+
+laid-length : (w c : ℕ) (ts : List Table) → 126 ≤ w → AllFit ts → length (laid w c ts) ≡ w * c
+unfolding laid
+laid-length w zero ts h a = sym (mul-zero w)
+laid-length w (suc c) [] h a =
+    let k = laid-length w c [] h tt in
+    omega (arith, length-append (replicate {A = ℕ} w 0) (laid w c []), length-replicate {A = ℕ} w 0, mul-suc w c)
+laid-length w (suc c) (t ∷ ts) h a =
+    let k = laid-length w c ts h (a .1) in
+    let l : length (slot w t) ≡ w = slot-length w (t .job) (t .loss) (t .gap) (t .values) (omega arith) in
+    omega (arith, length-append (slot w t) (laid w c ts), mul-suc w c)
+
+laid-none : (w c : ℕ) → laid w c [] ≡ replicate (w * c) 0
+unfolding laid
+laid-none w zero = ap (λ (k : ℕ). replicate k 0) (sym (mul-zero w))
+laid-none w (suc c) =
+    let e : w + w * c ≡ w * suc c = omega (arith, mul-suc w c) in
+    ap (λ (l : List ℕ). replicate w 0 ++ l) (laid-none w c) ∙ replicate-append-replicate {A = ℕ} w (w * c) 0 ∙ ap (λ (k : ℕ). replicate k 0) e
+
+-- ---- a shelf and eight lists
+pub record Sim (l : Layout) (xs : List ℕ) (lists : Lists) : Type 0 where
+  pub long : length xs ≡ l .total
+  pub spans : (s : ℕ) → s ≤ 7 → Held (l .words) (l .count s) (lists s) (spanOf l s xs)
+
+module _ (l : Layout) (ok : Lawful l) where
+  -- the span of a society, as words of the layout
+  abbrev Own : ℕ → List Table → List ℕ → Type 0
+  Own s ts x = Held (l .words) (l .count s) ts x
+
+  pub sim-cleared : Sim l (cleared l) nothing
+  sim-cleared = record { long = cleared-length l ok; spans = λ s h. record { words = cleared-span l ok s h ∙ sym (laid-none (l .words) (l .count s)); few = zero-le; fit = tt } }
+
+  -- a step of one span and one list is a step of the shelf and the lists
+  module _ (s : ℕ) (f : List ℕ → List ℕ) (g : List Table → List Table) (step : s ≤ 7 → (ts : List Table) (x : List ℕ) → Own s ts x → Own s (g ts) (f x))
+      (xs : List ℕ) (lists : Lists) (sim : Sim l xs lists) where
+    same : s ≤ 7 → length (f (spanOf l s xs)) ≡ sizeOf l s
+    same h = let k = step h (lists s) (spanOf l s xs) (sim .spans s h) in ap length (k .words) ∙ laid-length (l .words) (l .count s) (g (lists s)) (ok .wide) (k .fit)
+
+    sim-on : Sim l (onSociety l s f xs) (onList s g lists)
+    sim-on = record { long = society-length l ok s f xs (sim .long) same; spans = λ t h. go t h (eqb t s) refl }
+      where
+        go : (t : ℕ) → t ≤ 7 → (b : Bool) → eqb t s ≡ b → Own t (cond b (g (lists t)) (lists t)) (spanOf l t (onSociety l s f xs))
+        go t h true e =
+            let q : s ≡ t = sym (eqb-true t s e) in
+            let k : s ≤ 7 = omega arith in
+            subst (λ (r : ℕ). Own r (g (lists r)) (spanOf l r (onSociety l s f xs))) q
+            (subst (λ (x : List ℕ). Own s (g (lists s)) x) (sym (own l ok s f xs (sim .long) same k)) (step k (lists s) (spanOf l s xs) (sim .spans s k)))
+        go t h false e = subst (λ (x : List ℕ). Own t (lists t) x) (sym (other l ok s f xs (sim .long) same t h (eqb-false t s e))) (sim .spans t h)
+
+  sim-from : (s : ℕ) (f : List ℕ → Reply) (g : List Table → Reply) → ((ts : List Table) (x : List ℕ) → Own s ts x → f x ≡ g ts)
+      → (xs : List ℕ) (lists : Lists) → Sim l xs lists → fromSociety l s f xs ≡ fromList s g lists
+  unfolding fromSociety
+  sim-from s f g step xs lists sim = go (leb s 7) refl
+    where
+      go : (b : Bool) → leb s 7 ≡ b → cond b (f (spanOf l s xs)) (refusal 11 0) ≡ cond b (g (lists s)) (refusal 11 0)
+      go true e = step (lists s) (spanOf l s xs) (sim .spans s (leb-true s 7 e))
+      go false e = refl
+
+  -- ---- each call
+  held-kept : (o : Checked) → Sound o → (ts : List Table) (x : List ℕ) → Own (o .society) ts x
+      → Own (o .society) (kept (l .count (o .society)) (tableFrom o) ts) (keptIn (l .words) (l .count (o .society)) (o .job) (slotFrom l o) x)
+  held-kept o sound ts x k =
+      let c = l .count (o .society) in
+      let pos = ok .some (o .society) (sound .society) in
+      record {
+        words = ap (keptIn (l .words) c (o .job) (slotFrom l o)) (k .words) ∙ kept-laid (l .words) (ok .wide) (tableFrom o) c ts pos (k .few) (k .fit);
+        few = few-kept (tableFrom o) ts c pos (k .few);
+        fit = all-kept Fits (tableFrom o) ts c (sound .some, sound .few) (k .fit);
+      }
+
+  held-removed : (s j : ℕ) (ts : List Table) (x : List ℕ) → Own s ts x → Own s (removed j ts) (forgotIn (l .words) (l .count s) j x)
+  held-removed s j ts x k =
+      record {
+        words = ap (forgotIn (l .words) (l .count s) j) (k .words) ∙ removed-laid (l .words) (ok .wide) j (l .count s) ts (k .few) (k .fit);
+        few = few-removed j ts (l .count s) (k .few);
+        fit = all-removed Fits j ts (k .fit);
+      }
+
+  kept-sim : (o : Checked) → (accepted (o .verdict) ≡ true → Sound o) → (xs : List ℕ) (lists : Lists) → Sim l xs lists → Sim l (keptShelf l o xs) (keptLists (l .count) o lists)
+  unfolding keptShelf
+  kept-sim o sound xs lists sim = go (accepted (o .verdict)) refl
+    where
+      go : (b : Bool) → accepted (o .verdict) ≡ b
+          → Sim l (cond b (onSociety l (o .society) (keptIn (l .words) (l .count (o .society)) (o .job) (slotFrom l o)) xs) xs) (cond b (onList (o .society) (kept (l .count (o .society)) (tableFrom o)) lists) lists)
+      go true e = sim-on (o .society) (keptIn (l .words) (l .count (o .society)) (o .job) (slotFrom l o)) (kept (l .count (o .society)) (tableFrom o)) (λ h. held-kept o (sound e)) xs lists sim
+      go false e = sim
+
+  whole-after : (call : Call) (xs : List ℕ) (lists : Lists) → Sim l xs lists → Sim l (wholeAfter l xs call) (listsAfter (l .count) lists call)
+  unfolding forgotShelf
+  whole-after (keep job proposal) xs lists sim = kept-sim (checkedOf job proposal) (accepted-sound job proposal) xs lists sim
+  whole-after (fetch society job room) xs lists sim = sim
+  whole-after (forget society job) xs lists sim = sim-on society (forgotIn (l .words) (l .count society) job) (removed job) (λ h. held-removed society job) xs lists sim
+  whole-after clear xs lists sim = sim-cleared
+
+  whole-said : (call : Call) (xs : List ℕ) (lists : Lists) → Sim l xs lists → wholeSaid l xs call ≡ listsSay lists call
+  unfolding fetchReply forgotReply
+  whole-said (keep job proposal) xs lists sim = refl
+  whole-said (fetch society job room) xs lists sim =
+      let c = l .count society in
+      sim-from society (fetchIn (l .words) c job room) (fetched job room) (λ ts x k. ap {B = Reply} (fetchIn (l .words) c job room) (k .words) ∙ fetched-laid (l .words) (ok .wide) job room c ts (k .few) (k .fit)) xs lists sim
+  whole-said (forget society job) xs lists sim =
+      let c = l .count society in
+      sim-from society (forgetReply (l .words) c job) (forgotten job) (λ ts x k. ap {B = Reply} (forgetReply (l .words) c job) (k .words) ∙ forgotten-laid (l .words) (ok .wide) job c ts (k .few) (k .fit)) xs lists sim
+  whole-said clear xs lists sim = refl
+
+  -- a shelf that stands for eight lists has all its words
+  pub sim-after : (call : Call) (xs : List ℕ) (lists : Lists) → Sim l xs lists → Sim l (after l xs call) (listsAfter (l .count) lists call)
+  sim-after call xs lists sim =
+      subst (λ (ys : List ℕ). Sim l ys (listsAfter (l .count) lists call)) (on-whole l xs (sim .long) (λ s. wholeAfter l s call)) (whole-after call xs lists sim)
+
+  pub sim-said : (call : Call) (xs : List ℕ) (lists : Lists) → Sim l xs lists → said l xs call ≡ listsSay lists call
+  sim-said call xs lists sim = sym (from-whole l xs (sim .long) (λ s. wholeSaid l s call)) ∙ whole-said call xs lists sim
+
+  sim-run : (calls : List Call) (xs : List ℕ) (lists : Lists) → Sim l xs lists → runOf l xs calls ≡ listsRun (l .count) lists calls
+  sim-run [] xs lists sim = refl
+  sim-run (call ∷ calls) xs lists sim =
+      ap (λ (r : Reply). r ∷ runOf l (after l xs call) calls) (sim-said call xs lists sim)
+      ∙ ap (λ (rs : List Reply). listsSay lists call ∷ rs) (sim-run calls (after l xs call) (listsAfter (l .count) lists call) (sim-after call xs lists sim))
+
+  -- for any lawful layout
+  pub lists-of : (calls : List Call) → runOf l (cleared l) calls ≡ listsRun (l .count) nothing calls
+  lists-of calls = sim-run calls (cleared l) nothing sim-cleared

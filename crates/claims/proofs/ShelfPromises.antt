@@ -1,0 +1,36 @@
+-- The promises of the shelf, each a law whose type is its statement in specs/ShelfPromises.antt: what holds for any lawful layout, for document 01's.
+use Rattle.shelf.specs.Shelf.{base}
+use Rattle.shelf.proofs.Spans.{base-lawful}
+use Rattle.claims.specs.ShelfPromises.{EightLists, NoNeighbour, OwnSpanDecides, OtherSpansStay, LastKeptFetched, LostRefused, FourHeld, FetchedAccepted, RefusedStays}
+use Rattle.claims.proofs.EightLists.{lists-of}
+use Rattle.claims.proofs.NoNeighbour.{alone, alone-call, others-stay}
+use Rattle.claims.proofs.LastKept.{last-of, lost-of, few-held}
+use Rattle.claims.proofs.Fetched.{fetched-of}
+use Rattle.claims.proofs.Refusals.{refused-of}
+
+pub eight-lists : EightLists
+eight-lists = lists-of base base-lawful
+
+pub no-neighbour : NoNeighbour
+no-neighbour = alone base base-lawful
+
+pub own-span-decides : OwnSpanDecides
+own-span-decides = alone-call base base-lawful
+
+pub other-spans-stay : OtherSpansStay
+other-spans-stay = others-stay base base-lawful
+
+pub last-kept-fetched : LastKeptFetched
+last-kept-fetched = last-of base base-lawful
+
+pub lost-refused : LostRefused
+lost-refused = lost-of base base-lawful
+
+pub four-held : FourHeld
+four-held = few-held base base-lawful
+
+pub fetched-accepted : FetchedAccepted
+fetched-accepted = fetched-of base base-lawful
+
+pub refused-stays : RefusedStays
+refused-stays = refused-of base

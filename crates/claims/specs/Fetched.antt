@@ -1,0 +1,33 @@
+-- What stands behind a fetched table: two packs that were sent, and that the check accepted with the F and G that the fetch gives.
+use Prim.Native.Nat.{ℕ, _<_}
+use mathlib.Core.Path.{_≡_}
+use mathlib.Core.Logic.{_⊎_}
+use mathlib.Core.List.{List, [], _∷_}
+use lib.IntN.{ℤ, pos, _-ℤ_, _*ℤ_}
+use lib.ListN.{length, getD}
+use lib.Signed.{_≤ℤ_}
+use Rattle.measure.specs.declared.check.Verdict.the-variants.{Accepted}
+use Rattle.measure.specs.Check.{checkOf}
+use Rattle.shelf.specs.Slots.{Reply}
+use Rattle.shelf.specs.Calls.{Call, keep}
+use Rattle.claims.specs.Read.{jobIn, valuesIn}
+use Rattle.claims.specs.Meets.{Meets, scaledLossOf}
+
+-- the call is one of those
+abbrev pub Sent : Call → List Call → Type 0
+Sent call [] = ⊥
+Sent call (other ∷ calls) = (call ≡ other) ⊎ Sent call calls
+
+-- The reply hands out a table that was accepted: its job pack names the society and the number, the check gave its F and G, the values are the
+-- proposal's, and no table that meets the job, fractions included, has a loss below F - G.
+pub record WasAccepted (calls : List Call) (society number : ℕ) (r : Reply) : Type 0 where
+  pub job : List ℕ
+  pub proposal : List ℕ
+  pub sent : Sent (keep job proposal) calls
+  pub its-society : jobIn job .society ≡ society
+  pub its-number : jobIn job .number ≡ number
+  pub accepted : checkOf job proposal ≡ Accepted (pos (r .answer .loss)) (pos (r .answer .gap))
+  pub count : length (r .values) ≡ jobIn job .cells
+  pub values : (i : ℕ) → i < jobIn job .cells → pos (getD (r .values) i 0) ≡ valuesIn job proposal i
+  pub best : (d : ℤ) (X : ℕ → ℤ) → pos 1 ≤ℤ d → Meets (jobIn job) d X
+      → (d *ℤ d *ℤ (pos (r .answer .loss) -ℤ pos (r .answer .gap))) ≤ℤ scaledLossOf (jobIn job) d X

@@ -1,0 +1,104 @@
+-- "From a cleared shelf, any sequence of calls answers as eight separate lists of at most four tables would" (document 01, "The shelf"): those lists.
+-- A table goes where its job is, else to the end; where a list is full its oldest table is dropped.
+use Prim.Native.Nat.{ℕ}
+use mathlib.Core.Bool.{Bool, false, cond, _||_}
+use mathlib.Core.List.{List, [], _∷_, _++_}
+use lib.Dec.{eqb, leb, ltb}
+use lib.ListN.{length}
+use Rattle.shelf.specs.Slots.{Reply, refusal, done}
+use Rattle.shelf.specs.Checked.{Checked, checkedOf, accepted, answerOf}
+use Rattle.shelf.specs.Shelf.{keepReply}
+use Rattle.shelf.specs.Calls.{Call, keep, fetch, forget, clear}
+
+pub record Table : Type 0 where
+  pub job : ℕ
+  pub loss : ℕ
+  pub gap : ℕ
+  pub values : List ℕ
+
+-- the table of an accepted check
+abbrev pub tableFrom : Checked → Table
+tableFrom o = record { job = o .job; loss = answerOf (o .verdict) .loss; gap = answerOf (o .verdict) .gap; values = o .values }
+
+-- ---- a list of tables, oldest first
+abbrev pub isOf : (job : ℕ) → Table → Bool
+isOf job t = eqb (t .job) job
+
+abbrev pub holds : (job : ℕ) → List Table → Bool
+holds job [] = false
+holds job (t ∷ ts) = isOf job t || holds job ts
+
+-- u where its job is
+abbrev pub replaced : Table → List Table → List Table
+replaced u [] = []
+replaced u (t ∷ ts) = cond (isOf (u .job) t) (u ∷ ts) (t ∷ replaced u ts)
+
+-- the table of a job taken out
+abbrev pub removed : (job : ℕ) → List Table → List Table
+removed job [] = []
+removed job (t ∷ ts) = cond (isOf job t) ts (t ∷ removed job ts)
+
+-- all but the oldest
+abbrev pub youngest : List Table → List Table
+youngest [] = []
+youngest (t ∷ ts) = ts
+
+-- a table goes where its job is, else to the end; where c are kept the oldest is dropped
+abbrev pub kept : (c : ℕ) → Table → List Table → List Table
+kept c u ts = cond (holds (u .job) ts) (replaced u ts) (cond (ltb (length ts) c) ts (youngest ts) ++ (u ∷ []))
+
+-- what a fetch of that table says, where the output has so much room
+abbrev pub handed : (room : ℕ) → Table → Reply
+handed room t =
+    cond (leb (length (t .values)) room)
+    (record { answer = record { number = 0; place = length (t .values); loss = t .loss; gap = t .gap }; values = t .values })
+    (refusal 13 (length (t .values)))
+
+-- "12: nothing kept under that number"
+abbrev pub fetched : (job room : ℕ) → List Table → Reply
+fetched job room [] = refusal 12 0
+fetched job room (t ∷ ts) = cond (isOf job t) (handed room t) (fetched job room ts)
+
+abbrev pub forgotten : (job : ℕ) → List Table → Reply
+forgotten job ts = cond (holds job ts) done (refusal 12 0)
+
+-- ---- eight lists
+abbrev pub Lists : Type 0
+Lists = ℕ → List Table
+
+-- the society's list becomes f of it
+abbrev pub onList : (society : ℕ) → (f : List Table → List Table) → Lists → Lists
+onList society f lists other = cond (eqb other society) (f (lists other)) (lists other)
+
+-- what f says of the society's list; "11: fetch or forget: society above 7"
+abbrev pub fromList : (society : ℕ) → (f : List Table → Reply) → Lists → Reply
+fromList society f lists = cond (leb society 7) (f (lists society)) (refusal 11 0)
+
+abbrev pub nothing : Lists
+nothing society = []
+
+-- count: how many tables a society's list may hold
+abbrev pub keptLists : (count : ℕ → ℕ) → Checked → Lists → Lists
+keptLists count o lists = cond (accepted (o .verdict)) (onList (o .society) (kept (count (o .society)) (tableFrom o)) lists) lists
+
+-- the lists after a call, and what they say to it
+abbrev pub listsAfter : (count : ℕ → ℕ) → Lists → Call → Lists
+listsAfter count lists (keep job proposal) = keptLists count (checkedOf job proposal) lists
+listsAfter count lists (fetch society job room) = lists
+listsAfter count lists (forget society job) = onList society (removed job) lists
+listsAfter count lists clear = nothing
+
+abbrev pub listsSay : Lists → Call → Reply
+listsSay lists (keep job proposal) = keepReply (checkedOf job proposal)
+listsSay lists (fetch society job room) = fromList society (fetched job room) lists
+listsSay lists (forget society job) = fromList society (forgotten job) lists
+listsSay lists clear = done
+
+-- what they say to each call of a sequence
+abbrev pub listsRun : (count : ℕ → ℕ) → Lists → List Call → List Reply
+listsRun count lists [] = []
+listsRun count lists (call ∷ calls) = listsSay lists call ∷ listsRun count (listsAfter count lists call) calls
+
+-- document 01: at most four
+abbrev pub four : ℕ → ℕ
+four society = 4

@@ -1,0 +1,81 @@
+-- What is promised of the shelf: short statements about `after` and `said`, which the contracts of `keep`, `fetch`, `forget` and `clear` cite. A call
+-- carries the packs and numbers that are sent and the room that is lent; none of them is assumed to be sound. The proof of each stands in
+-- proofs/ShelfPromises.antt.
+use Prim.Native.Nat.{ℕ, _≤_}
+use mathlib.Core.Path.{_≡_}
+use mathlib.Core.Bool.{true, false}
+use mathlib.Core.Option.{some}
+use mathlib.Core.List.{List, []}
+use lib.ListN.{length}
+use Rattle.shelf.specs.Slots.{Reply, refusal}
+use Rattle.shelf.specs.Shelf.{base, spanOf, cleared}
+use Rattle.shelf.specs.Calls.{Call, fetch, after, said, runOf, names}
+use Rattle.claims.specs.Lists.{Table, holds, nothing, listsRun, four}
+use Rattle.claims.specs.Heard.{heard, without}
+use Rattle.claims.specs.LastKept.{lastKept, shelfAfter, held, given}
+use Rattle.claims.specs.Fetched.{WasAccepted}
+
+-- ---- eight lists
+
+-- From a cleared shelf, any sequence of calls answers as eight separate lists of at most four tables would: number, place, F, G and the values
+-- handed out.
+abbrev pub EightLists : Type 0
+EightLists = (calls : List Call) → runOf base (cleared base) calls ≡ listsRun four nothing calls
+
+-- ---- no neighbour
+
+-- In any sequence of calls, from any words, taking out every call that names another society changes no answer to this society's calls.
+abbrev pub NoNeighbour : Type 0
+NoNeighbour = (society : ℕ) (calls : List Call) (shelf : List ℕ) → heard base society shelf calls ≡ heard base society shelf (without society calls)
+
+-- On any words: two shelves of one length that agree on a society's span give its call the same answer, and the same span afterwards.
+abbrev pub OwnSpanDecides : Type 0
+OwnSpanDecides =
+    (society : ℕ) → society ≤ 7 → (call : Call) → names society call ≡ true
+    → (xs ys : List ℕ) → length xs ≡ length ys → spanOf base society xs ≡ spanOf base society ys
+    → (said base xs call ≡ said base ys call) × (spanOf base society (after base xs call) ≡ spanOf base society (after base ys call))
+
+-- On any words: a society's call leaves every other society's span as it was.
+abbrev pub OtherSpansStay : Type 0
+OtherSpansStay =
+    (society : ℕ) (call : Call) → names society call ≡ true → (shelf : List ℕ)
+    → (other : ℕ) → other ≤ 7 → (other ≡ society → ⊥) → spanOf base other (after base shelf call) ≡ spanOf base other shelf
+
+-- ---- what a fetch gives
+
+-- With room for it, a fetch gives the table last kept for that society and job, if it is among those that the rule still holds.
+abbrev pub LastKeptFetched : Type 0
+LastKeptFetched =
+    (calls : List Call) (society job room : ℕ) → society ≤ 7
+    → (t : Table) → lastKept society job calls ≡ some t → holds job (held four calls society) ≡ true → length (t .values) ≤ room
+    → said base (shelfAfter base (cleared base) calls) (fetch society job room) ≡ given t
+
+-- What the rule holds no more, dropped, forgotten or cleared, is refused with 12.
+abbrev pub LostRefused : Type 0
+LostRefused =
+    (calls : List Call) (society job room : ℕ) → society ≤ 7 → holds job (held four calls society) ≡ false
+    → said base (shelfAfter base (cleared base) calls) (fetch society job room) ≡ refusal 12 0
+
+-- The rule holds at most four.
+abbrev pub FourHeld : Type 0
+FourHeld = (calls : List Call) (society : ℕ) → society ≤ 7 → length (held four calls society) ≤ 4
+
+-- A fetched table was accepted: its F and G carry demand 3 for the job that it was kept under.
+abbrev pub FetchedAccepted : Type 0
+FetchedAccepted =
+    (calls : List Call) (society job room : ℕ)
+    → said base (shelfAfter base (cleared base) calls) (fetch society job room) .answer .number ≡ 0
+    → WasAccepted calls society job (said base (shelfAfter base (cleared base) calls) (fetch society job room))
+
+-- ---- refusals
+
+-- The reply is a refusal, and it gives nothing away.
+abbrev pub Refused : Reply → Type 0
+Refused r = r .answer .number ≡ 0 → ⊥
+
+abbrev pub GivesNothing : Reply → Type 0
+GivesNothing r = (r .values ≡ []) × (r .answer .loss ≡ 0) × (r .answer .gap ≡ 0)
+
+-- A call whose number is not 0 leaves every word of the shelf as it was, hands out no value, and its F and G are 0; from any words.
+abbrev pub RefusedStays : Type 0
+RefusedStays = (shelf : List ℕ) (call : Call) → Refused (said base shelf call) → (after base shelf call ≡ shelf) × GivesNothing (said base shelf call)

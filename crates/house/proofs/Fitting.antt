@@ -1,0 +1,151 @@
+-- The promises of the house proposal: what is done was written whole, so it reads back as the words that were written, and each of them is known.
+use Prim.Native.Nat.{ℕ, zero, suc, _+_, _≤_, _<_}
+use mathlib.Core.Path.{_≡_, refl, sym, ap, subst, _∙_}
+use mathlib.Core.Bool.{Bool, true, false}
+use mathlib.Core.Logic.{inr}
+use mathlib.Core.List.{List}
+use native.Mathlib.Nat as N
+use native.Mathlib.Omega.{arith}
+use borrow.Author.Tests.{ltb-true, ltb-false}
+use lib.Dec.{ltb, lit<}
+use lib.IntN.{ℤ, pos}
+use lib.Ieee.{Float, nan}
+use lib.ListN.{length, getD, replicate, length-replicate}
+use mir.Syntax.{w64}
+use mir.Val.{SFits}
+use Rattle.numbers.specs.Choice.{if_then_else_}
+use Rattle.numbers.proofs.Clash.{clash}
+use Rattle.whole.proofs.Fits.{small-fits}
+use Rattle.whole.proofs.Order.{pos-mono}
+use Rattle.fields.specs.Table.{valuesFrom}
+use Rattle.packs.specs.declared.Outcome.{Outcome}
+use Rattle.packs.specs.declared.Outcome.the-variants.{Done, Refused}
+use Rattle.packs.specs.Promises.{AllWords}
+use Rattle.packs.specs.Reading.{Ran}
+use Rattle.packs.specs.Writing.{Written, inRoom, refused, writeFrom}
+use Rattle.packs.proofs.Onto.{length-written}
+use Rattle.jobs.specs.Job.{Job}
+use Rattle.jobs.specs.Words.{wordAt, jobOf}
+use Rattle.jobs.specs.Allowed.{Allowed}
+use Rattle.jobs.specs.Packs.{readJob, readProposal, writeProposal}
+use Rattle.jobs.proofs.Readings.{read-jobs-allowed}
+use Rattle.jobs.proofs.Handed.{six-done}
+use Rattle.jobs.proofs.Trips.{proposals-read-back}
+use Rattle.house.specs.declared.factor.Ending.{Ending}
+use Rattle.house.specs.declared.factor.Ending.the-variants.{Whole, Thin}
+use Rattle.house.specs.Proposal.{solvedOf, valueOf, wordsOf, onEnding, proposedOf, onRead}
+use Rattle.house.specs.Promises.{Fit, ProposalsFit, ProposalsCounted}
+use Rattle.house.proofs.Boxed.{value-between, value-small}
+use Rattle.house.proofs.Fills.{filled-at, filled-other, length-filled}
+
+-- ---- what is done was written
+
+-- a writing that is done, with its length
+record Roomed (room : ℕ) (w r : Written) (n : ℕ) : Type 0 where
+  pub ends : w .outcome ≡ Done n
+  pub bytes : r .bytes ≡ w .bytes
+  pub room-for : n ≤ room
+
+in-room : (room : ℕ) (bytes : List ℕ) (o : Outcome) (n : ℕ) → inRoom room bytes o .outcome ≡ Done n
+    → Roomed room (record { bytes = bytes; outcome = o }) (inRoom room bytes o) n
+in-room room bytes (Refused number place) n e = clash (cc)
+in-room room bytes (Done m) n e = go (ltb room m) refl e
+  where
+    go : (t : Bool) → ltb room m ≡ t → (if t then refused 13 m else record { bytes = bytes; outcome = Done m }) .outcome ≡ Done n
+        → Roomed room (record { bytes = bytes; outcome = Done m }) (if t then refused 13 m else record { bytes = bytes; outcome = Done m }) n
+    go true l e = clash (cc)
+    go false l e =
+        let q : m ≡ n = cc in
+        record { ends = e; bytes = refl; room-for = subst (λ (k : ℕ). k ≤ room) q (ltb-false room m l) }
+
+-- the values that are written
+record Done-by (room : ℕ) (j : Job) (r : Written) (n : ℕ) : Type 0 where
+  pub values : List Float
+  pub whole : Roomed room (writeProposal (j .cells) (j .links) (wordsOf j values)) r n
+
+on-ending : (room : ℕ) (j : Job) (v : List Float) (e : Ending) (n : ℕ) → onEnding room j v e .outcome ≡ Done n → Done-by room j (onEnding room j v e) n
+on-ending room j v Whole n h =
+    let w = writeProposal (j .cells) (j .links) (wordsOf j v) in
+    record { values = v; whole = in-room room (w .bytes) (w .outcome) n h }
+on-ending room j v (Thin cell pivot) n h = clash (cc)
+
+proposed : (room : ℕ) (j : Job) (n : ℕ) → proposedOf room j .outcome ≡ Done n → Done-by room j (proposedOf room j) n
+unfolding proposedOf
+proposed room j n h = on-ending room j (solvedOf j .values) (solvedOf j .ending) n h
+
+-- the job was read, and its proposal is done
+record Read-by (room : ℕ) (ws : List ℤ) (o : Outcome) (r : Written) (n : ℕ) : Type 0 where
+  pub count : ℕ
+  pub read : o ≡ Done count
+  pub done : Done-by room (jobOf ws) r n
+
+on-read : (room : ℕ) (ws : List ℤ) (o : Outcome) (n : ℕ) → onRead room ws o .outcome ≡ Done n → Read-by room ws o (onRead room ws o) n
+on-read room ws (Refused number place) n h = clash (cc)
+on-read room ws (Done k) n h = record { count = k; read = refl; done = proposed room (jobOf ws) n h }
+
+-- ---- the words that are written
+
+zeros-at : (m i : ℕ) → getD (replicate m (pos 0)) i (pos 0) ≡ pos 0
+zeros-at zero i = refl
+zeros-at (suc m) zero = refl
+zeros-at (suc m) (suc i) = zeros-at m i
+
+module _ (j : Job) (v : List Float) where
+  count-is : length (wordsOf j v) ≡ j .cells + j .links
+  unfolding wordsOf
+  count-is = length-filled (λ i. valueOf j i (getD v i nan)) (j .cells) 0 (replicate (j .cells + j .links) (pos 0)) ∙ length-replicate (j .cells + j .links) (pos 0)
+
+  value-is : (i : ℕ) → i < j .cells → wordAt (wordsOf j v) i ≡ valueOf j i (getD v i nan)
+  unfolding wordsOf
+  value-is i h =
+      filled-at (λ i. valueOf j i (getD v i nan)) (j .cells) 0 i (replicate (j .cells + j .links) (pos 0)) (pos 0) (omega arith) (omega arith)
+      (rw (length-replicate (j .cells + j .links) (pos 0)) (omega arith))
+
+  zero-is : (i : ℕ) → j .cells ≤ i → wordAt (wordsOf j v) i ≡ pos 0
+  unfolding wordsOf
+  zero-is i h =
+      filled-other (λ i. valueOf j i (getD v i nan)) (j .cells) 0 i (replicate (j .cells + j .links) (pos 0)) (pos 0) (inr (omega arith))
+      ∙ zeros-at (j .cells + j .links) i
+
+  module _ (a : Allowed j) where
+    words-fit : AllWords (wordsOf j v)
+    words-fit i = go (ltb i (j .cells)) refl
+      where
+        go : (t : Bool) → ltb i (j .cells) ≡ t → SFits w64 (wordAt (wordsOf j v) i)
+        go true e =
+            let h = ltb-true i (j .cells) e in
+            rw (value-is i h) (small-fits (valueOf j i (getD v i nan)) (value-small (a .cell i h) (getD v i nan)) (lit< tt))
+        go false e = rw (zero-is i (ltb-false i (j .cells) e)) (small-fits (pos 0) (N.le-refl 0) (lit< tt))
+
+    back : {n : ℕ} {s : List ℕ} → writeProposal (j .cells) (j .links) (wordsOf j v) .outcome ≡ Done n
+        → s ≡ writeProposal (j .cells) (j .links) (wordsOf j v) .bytes
+        → readProposal (j .cells) (j .links) s ≡ record { words = wordsOf j v; outcome = Done (j .cells + j .links) }
+    back {n} e q = rw q (proposals-read-back (j .cells) (j .links) (wordsOf j v) words-fit n e ∙ ap {B = Ran} (λ (k : ℕ). record { words = wordsOf j v; outcome = Done k }) count-is)
+
+    fits : {r : Ran} → r ≡ record { words = wordsOf j v; outcome = Done (j .cells + j .links) } → Fit j r
+    fits e =
+        rw e
+        (record {
+          whole = refl;
+          above = λ i h. rw (value-is i h, a .cell i h .floor .natural) (pos-mono (value-between (a .cell i h) (getD v i nan) .0));
+          below = λ i h. rw (value-is i h, a .cell i h .ceiling .natural) (pos-mono (value-between (a .cell i h) (getD v i nan) .1));
+          multiplier = λ l h. zero-is (j .cells + l) (omega arith);
+        })
+
+-- ---- the promises
+
+pub proposals-fit : ProposalsFit
+proposals-fit room job n e =
+    let j = jobOf (readJob job .words) in
+    let r = on-read room (readJob job .words) (readJob job .outcome) n e in
+    let a = read-jobs-allowed job (r .count) (r .read) in
+    fits j (r .done .values) a (back j (r .done .values) a (r .done .whole .ends) (r .done .whole .bytes))
+
+pub proposals-counted : ProposalsCounted
+proposals-counted room job n e =
+    let j = jobOf (readJob job .words) in
+    let w = on-read room (readJob job .words) (readJob job .outcome) n e .done in
+    let ws = wordsOf j (w .values) in
+    let first = valuesFrom (j .cells) (j .links) in
+    let d = six-done (writeFrom ws first 0 .outcome) n (w .whole .ends) in
+    (ap length (w .whole .bytes) ∙ sym (N.zero-add (length (writeFrom ws first 0 .bytes))) ∙ length-written ws first 0 n d, w .whole .room-for)

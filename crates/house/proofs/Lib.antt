@@ -1,0 +1,10 @@
+pub mod Told
+pub mod Sizes
+pub mod Fills
+pub mod Turns
+pub mod Halves
+pub mod Nearest
+pub mod Boxed
+pub mod Solving
+pub mod Handing
+pub mod Fitting

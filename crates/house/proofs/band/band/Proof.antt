@@ -1,0 +1,114 @@
+-- After i turns the places below i hold their rows.
+use mathlib.Core.Path.{_≡_, sym, ap, ap₂, _∙_}
+use Prim.Native.Nat.{ℕ, _+_, _-_, _*_, _≤_, _<_}
+use native.Mathlib.Omega.{arith}
+use mathlib.Core.List.{List}
+use lib.Dec.{lit<}
+use lib.IntN.{ℤ}
+use lib.ListN.{set, replicate}
+use lib.Ieee.{Float, ofBits}
+use Rattle.jobs.specs.Words.{wordAt, cellsOf}
+use Rattle.house.specs.Filled.{filled}
+use Rattle.house.specs.Band.{entriesOf, zero64}
+use Rattle.house.proofs.Fills.{filled-more, filled-done}
+use Rattle.house.proofs.Told.{cells-few, order-few, inside, weight-small, constant-small, word-is}
+use borrow.Author.Needs.{needs}
+use Rattle.house.proofs.band.band.Statement.{statement}
+use Rattle.house.proofs.band.band.Tie as tie
+
+abbrev lines : List ℤ → (n z : ℕ) → ℕ → List Float
+lines ws n z i = entriesOf (wordAt ws (7 + 4 * i)) (wordAt ws 4) n z i
+
+abbrev Inv-loop : tie.InvT-loop
+Inv-loop words n z made₀ i₀ made i = (i ≤ n) × (filled (lines words n z) (n - i) i made ≡ filled (lines words n z) n 0 made₀)
+
+abbrev μ-loop : tie.MeasureT-loop
+μ-loop words n z made₀ i₀ made i = n - i
+
+loop-holds : tie.Need-loop-holds Inv-loop μ-loop
+loop-holds c =
+    let e : c .args .n - 0 ≡ c .args .n = omega arith in
+    (omega arith, rw e)
+
+mul-base : tie.Need-mul-base Inv-loop μ-loop
+mul-base c = let few = cells-few (c .before .before .pre .0) in search needs
+
+add-at : tie.Need-add-at Inv-loop μ-loop
+add-at c = let few = cells-few (c .before .before .pre .0) in search needs
+
+mul-entries-of : tie.Need-mul-entries-of Inv-loop μ-loop
+mul-entries-of c = let few = cells-few (c .before .before .pre .0) in search needs
+
+shared-slice-copy-out-entries-of : tie.Need-shared-slice-copy-out-entries-of Inv-loop μ-loop
+shared-slice-copy-out-entries-of c = omega (arith, inside (c .before .before .pre .0), c .before .before .pre .1)
+
+shared-slice-copy-out-entries-of-2 : tie.Need-shared-slice-copy-out-entries-of-2 Inv-loop μ-loop
+shared-slice-copy-out-entries-of-2 c = omega (arith, inside (c .before .before .before .pre .0))
+
+entries-of-requires : tie.Need-entries-of-requires Inv-loop μ-loop
+entries-of-requires c κs =
+    let head = c .before .before .before in
+    let s = head .before in
+    let k = s .pre .0 in
+    let ws = s .args .words .now in
+    let i = head .loop .i in
+    let h : i < cellsOf ws = omega (arith, s .pre .1) in
+    rw (word-is (wordAt ws (7 + 4 * i)) (weight-small k h) (lit< tt), word-is (wordAt ws 4) (constant-small k) (lit< tt))
+    (weight-small k h, constant-small k, omega (arith, cells-few k, s .pre .1), omega (arith, order-few k, s .pre .2), omega arith)
+
+mul-made : tie.Need-mul-made Inv-loop μ-loop
+mul-made c = let few = cells-few (c .before .before .before .before .before .pre .0) in search needs
+
+array-set-from-made : tie.Need-array-set-from-made Inv-loop μ-loop
+array-set-from-made c = let few = cells-few (c .before .before .before .before .before .pre .0) in search needs
+
+add-i : tie.Need-add-i Inv-loop μ-loop
+add-i c = let few = cells-few (c .before .before .before .before .before .pre .0) in search needs
+
+loop-less : tie.Need-loop-less Inv-loop μ-loop
+loop-less c = search needs
+
+loop-again : tie.Need-loop-again Inv-loop μ-loop
+loop-again c =
+    let head = c .before .before .before .before in
+    let s = head .before in
+    let k = s .pre .0 in
+    let ws = s .args .words .now in
+    let i = head .loop .i in
+    let made = head .loop .made in
+    let h : i < cellsOf ws = omega (arith, s .pre .1) in
+    let e : c .entries-of .result ≡ lines ws (s .args .n) (s .args .z) i =
+    c .entries-of .ensures ∙ ap₂ (λ (w k : ℤ). entriesOf w k (s .args .n) (s .args .z) i) (word-is (wordAt ws (7 + 4 * i)) (weight-small k h) (lit< tt)) (word-is (wordAt ws 4) (constant-small k) (lit< tt)) in (
+      omega arith,
+      ap (λ (x : List Float). filled (lines ws (s .args .n) (s .args .z)) (s .args .n - (i + 1)) (i + 1) (set made i x)) e
+          ∙ sym (filled-more (lines ws (s .args .n) (s .args .z)) i (s .args .n) made (omega arith)) ∙ head .loop .inv .1,
+    )
+
+returns : tie.Need-returns Inv-loop μ-loop
+unfolding ofBits
+returns c =
+    let head = c .before in
+    let s = head .before in
+    let ws = s .args .words .now in
+    sym (filled-done (lines ws (s .args .n) (s .args .z)) (head .loop .i) (s .args .n) (head .loop .made) (omega arith)) ∙ head .loop .inv .1
+    ∙ ap₂ (λ (n z : ℕ). filled (lines ws n z) n 0 (replicate 120 (replicate 5 zero64))) (s .pre .1) (s .pre .2)
+
+pub band-spec : {M : Type 1} → statement M
+band-spec =
+    tie.close
+    (tie.spec
+    Inv-loop
+    μ-loop
+    loop-holds
+    mul-base
+    add-at
+    mul-entries-of
+    shared-slice-copy-out-entries-of
+    shared-slice-copy-out-entries-of-2
+    entries-of-requires
+    mul-made
+    array-set-from-made
+    add-i
+    loop-less
+    loop-again
+    returns)

@@ -1,0 +1,62 @@
+-- The house proposal (document 01, "The house proposal", and "Order": "For the house proposal 10 follows the job. Output room comes last, when the
+-- needed length is known.").
+use Prim.Native.Nat.{ℕ, _+_}
+use mathlib.Core.List.{List}
+use lib.IntN.{ℤ, pos, natAbs}
+use lib.ListN.{getD, replicate}
+use lib.Ieee.{Float, nan}
+use Rattle.packs.specs.declared.Outcome.{Outcome}
+use Rattle.packs.specs.declared.Outcome.the-variants.{Done, Refused}
+use Rattle.packs.specs.Writing.{Written, refused, roomed}
+use Rattle.jobs.specs.Job.{Job}
+use Rattle.jobs.specs.Words.{jobOf}
+use Rattle.jobs.specs.Packs.{readJob, writeProposal}
+use Rattle.house.specs.declared.factor.Ending.{Ending}
+use Rattle.house.specs.declared.factor.Ending.the-variants.{Whole, Thin}
+use Rattle.house.specs.declared.proposal.Solved.{Solved}
+use Rattle.house.specs.Filled.{filled}
+use Rattle.house.specs.Band.{bandOf, rightOf, zero64}
+use Rattle.house.specs.Factor.{Factor, factorOf}
+use Rattle.house.specs.Solve.{solutionOf}
+use Rattle.house.specs.Rounding.{roundedOut}
+
+-- "It solves (W + kK'K)v = Wu in f64, links ignored": the values before rounding, where no pivot is thin.
+abbrev pub solvedBy : Job → (d : List Float) (l : List (List Float)) → Ending → Solved
+solvedBy j d l Whole = record { ending = Whole; values = solutionOf d l (j .order) (j .cells) (rightOf j) }
+solvedBy j d l (Thin cell pivot) = record { ending = Thin cell pivot; values = replicate 120 zero64 }
+
+unfoldable pub factorFor : Job → Factor
+factorFor j = factorOf (bandOf j) (j .order) (j .cells)
+
+unfoldable pub solvedOf : Job → Solved
+unfolding factorFor
+solvedOf j = solvedBy j (factorFor j .pivots) (factorFor j .multipliers) (factorFor j .ending)
+
+-- A value rounded out into the box of its cell.
+abbrev pub valueOf : Job → (i : ℕ) → Float → ℤ
+valueOf j i v = pos (roundedOut (natAbs (j .floor i)) (natAbs (j .ceiling i)) v)
+
+-- "All multipliers are 0."
+unfoldable pub wordsOf : Job → List Float → List ℤ
+wordsOf j v = filled (λ i. valueOf j i (getD v i nan)) (j .cells) 0 (replicate (j .cells + j .links) (pos 0))
+
+-- "It is written as a proposal pack", where the output has room for it.
+abbrev pub writtenOf : (room : ℕ) → Job → List Float → Written
+writtenOf room j v = roomed room (writeProposal (j .cells) (j .links) (wordsOf j v))
+
+-- "10: house proposal: data too thin: cell"
+abbrev pub onEnding : (room : ℕ) → Job → List Float → Ending → Written
+onEnding room j v Whole = writtenOf room j v
+onEnding room j v (Thin cell pivot) = refused 10 cell
+
+unfoldable pub proposedOf : (room : ℕ) → Job → Written
+unfolding solvedOf
+proposedOf room j = onEnding room j (solvedOf j .values) (solvedOf j .ending)
+
+-- The proposal for a job pack: the job's own refusals come first.
+abbrev pub onRead : (room : ℕ) → List ℤ → Outcome → Written
+onRead room ws (Done k) = proposedOf room (jobOf ws)
+onRead room ws (Refused number place) = refused number place
+
+abbrev pub proposeOf : (room : ℕ) → List ℕ → Written
+proposeOf room s = onRead room (readJob s .words) (readJob s .outcome)

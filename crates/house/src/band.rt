@@ -1,0 +1,123 @@
+// The band of A = W + kK'K and the right side Wu: whole numbers, cast exactly.
+use crate::factor::CELLS;
+ghost use mathlib.Core.Path.{_≡_};
+ghost use Prim.Native.Nat.{_≤_, _<_};
+ghost use lib.IntN.{natAbs, _*ℤ_};
+ghost use lib.Ieee.{binary64, ofInt};
+ghost use Rattle.jobs.specs.Words.{jobOf, cellsOf};
+ghost use Rattle.house.specs.Known.{Known};
+ghost use Rattle.house.specs.Band.{squareTerm, squaresAt, wholeEntry, entriesOf, bandOf, rightOf};
+
+fn cast(x: i64) -> f64
+    requires { ⌜ natAbs x ≤ 1000000000 ⌝ }
+    ensures { λ r. ⌜ r ≡ ofInt binary64 x ⌝ }
+{
+    x as f64
+}
+
+// What the difference at i - m brings to K'K at (i, i - o): nothing where it does not use both cells.
+fn square_term(n: usize, z: usize, i: usize, o: usize, m: usize) -> i64
+    requires { ⌜ (n ≤ 120) × (z ≤ 4) × (i < n) × (m ≤ z) ⌝ }
+    ensures { λ r. ⌜ r ≡ squareTerm n z i o m ⌝ }
+{
+    if m < o {
+        return 0;
+    }
+    if i < m {
+        return 0;
+    }
+    let last = i - m + z;
+    if n <= last {
+        return 0;
+    }
+    let other = m - o;
+    rows::row_at(z, m) * rows::row_at(z, other)
+}
+
+// K'K at (i, i - o).
+fn squares_at(n: usize, z: usize, i: usize, o: usize) -> i64
+    requires { ⌜ (n ≤ 120) × (z ≤ 4) × (i < n) ⌝ }
+    ensures { λ r. ⌜ r ≡ squaresAt n z i o ⌝ }
+{
+    let mut total = 0i64;
+    let mut m = 0;
+    while m <= z {
+        total = total + square_term(n, z, i, o, m);
+        m += 1;
+    }
+    total
+}
+
+// A at (i, i - o).
+fn whole_entry(w: i64, k: i64, squares: i64, o: usize) -> i64
+    requires { ⌜ (natAbs w ≤ 1000) × (natAbs k ≤ 1000) × (natAbs squares ≤ 180) ⌝ }
+    ensures { λ r. ⌜ r ≡ wholeEntry w k squares o ⌝ }
+{
+    if o == 0 {
+        return w + k * squares;
+    }
+    k * squares
+}
+
+fn entry_at(w: i64, k: i64, n: usize, z: usize, i: usize, o: usize) -> f64
+    requires { ⌜ (natAbs w ≤ 1000) × (natAbs k ≤ 1000) × (n ≤ 120) × (z ≤ 4) × (i < n) ⌝ }
+    ensures { λ r. ⌜ r ≡ ofInt binary64 (wholeEntry w k (squaresAt n z i o) o) ⌝ }
+{
+    let squares = squares_at(n, z, i, o);
+    let whole = whole_entry(w, k, squares, o);
+    cast(whole)
+}
+
+// Row i of the band.
+fn entries_of(w: i64, k: i64, n: usize, z: usize, i: usize) -> [f64; 5]
+    requires { ⌜ (natAbs w ≤ 1000) × (natAbs k ≤ 1000) × (n ≤ 120) × (z ≤ 4) × (i < n) ⌝ }
+    ensures { λ r. ⌜ r ≡ entriesOf w k n z i ⌝ }
+{
+    let a = entry_at(w, k, n, z, i, 0);
+    let b = entry_at(w, k, n, z, i, 1);
+    let c = entry_at(w, k, n, z, i, 2);
+    let d = entry_at(w, k, n, z, i, 3);
+    let e = entry_at(w, k, n, z, i, 4);
+    [a, b, c, d, e]
+}
+
+// The band of a job, by cell and offset.
+pub fn band(words: &[i64], n: usize, z: usize) -> [[f64; 5]; CELLS]
+    requires { ⌜ Known (now words) × (n ≡ cellsOf (now words)) × (z ≡ jobOf (now words) .order) ⌝ }
+    ensures { λ r. ⌜ r ≡ bandOf (jobOf (now (words .entry))) ⌝ }
+{
+    let mut made = [[0.0; 5]; CELLS];
+    let mut i = 0;
+    while i < n {
+        let base = 4 * i;
+        let at = 7 + base;
+        let entries = entries_of(words[at], words[4], n, z, i);
+        made[i] = entries;
+        i += 1;
+    }
+    made
+}
+
+fn right_at(w: i64, u: i64) -> f64
+    requires { ⌜ (natAbs w ≤ 1000) × (natAbs u ≤ 1000000) ⌝ }
+    ensures { λ r. ⌜ r ≡ ofInt binary64 (w *ℤ u) ⌝ }
+{
+    cast(w * u)
+}
+
+// The right side of a job, by cell.
+pub fn right(words: &[i64], n: usize) -> [f64; CELLS]
+    requires { ⌜ Known (now words) × (n ≡ cellsOf (now words)) ⌝ }
+    ensures { λ r. ⌜ r ≡ rightOf (jobOf (now (words .entry))) ⌝ }
+{
+    let mut made = [0.0; CELLS];
+    let mut i = 0;
+    while i < n {
+        let base = 4 * i;
+        let at = 6 + base;
+        let next = 7 + base;
+        made[i] = right_at(words[next], words[at]);
+        i += 1;
+    }
+    made
+}

@@ -1,0 +1,130 @@
+// The house proposal for a job: solved, rounded out, and written as a proposal pack with every multiplier 0.
+use crate::band::band;
+use crate::band::right;
+use crate::factor::CELLS;
+use crate::factor::Ending;
+use crate::factor::factor_band;
+use crate::rounding::round_out;
+use crate::solve::solve;
+use crate::words::cells_of;
+use crate::words::links_of;
+use crate::words::natural;
+use crate::words::order_of;
+use fields::Field;
+use packs::Outcome;
+ghost use mathlib.Core.Path.{_≡_};
+ghost use Prim.Native.Nat.{_<_};
+ghost use lib.IntN.{pos};
+ghost use lib.Ieee.{nan};
+ghost use lib.ListN.{length, getD, replicate};
+ghost use lib.Seq.{sets};
+ghost use Rattle.jobs.specs.Words.{jobOf, cellsOf};
+ghost use Rattle.house.specs.Known.{Known};
+ghost use Rattle.house.specs.Filled.{filled};
+ghost use Rattle.house.specs.Proposal.{solvedOf, valueOf, writtenOf, proposedOf, proposeOf};
+
+// A proposal has at most so many words: a value a cell and a multiplier a link.
+const PROPOSAL_WORDS: usize = 280;
+
+// How the factoring ends, and the values before rounding; zeros where it is thin.
+pub struct Solved {
+    pub ending: Ending,
+    pub values: [f64; CELLS],
+}
+
+pub fn solve_job(words: &[i64]) -> Solved
+    requires { ⌜ Known (now words) ⌝ }
+    ensures { λ r. ⌜ r ≡ solvedOf (jobOf (now (words .entry))) ⌝ }
+{
+    let n = cells_of(words);
+    let z = order_of(words);
+    let a = band(words, n, z);
+    let mut d = [0.0; CELLS];
+    let mut l = [[0.0; 4]; CELLS];
+    let ending = factor_band(a, n, z, &mut d, &mut l);
+    match ending {
+        Ending::Thin(cell, pivot) => {
+            let values = [0.0; CELLS];
+            Solved {
+                ending: Ending::Thin(cell, pivot),
+                values,
+            }
+        }
+        Ending::Whole => {
+            let b = right(words, n);
+            let values = solve(&d, &l, b, n, z);
+            Solved {
+                ending: Ending::Whole,
+                values,
+            }
+        }
+    }
+}
+
+// v rounded out into the box of the cell i.
+fn value_at(words: &[i64], i: usize, v: f64) -> i64
+    requires { ⌜ Known (now words) × (i < cellsOf (now words)) ⌝ }
+    ensures { λ r. ⌜ r ≡ valueOf (jobOf (now (words .entry))) i v ⌝ }
+{
+    let base = 4 * i;
+    let at = 8 + base;
+    let next = 9 + base;
+    let lo = natural(words[at]);
+    let hi = natural(words[next]);
+    round_out(v, lo, hi) as i64
+}
+
+// The words of a proposal: the values rounded out, and zeros after them.
+fn values_of(words: &[i64], n: usize, v: &[f64; CELLS]) -> [i64; PROPOSAL_WORDS]
+    requires { ⌜ Known (now words) × (n ≡ cellsOf (now words)) ⌝ }
+    ensures { λ r. ⌜ r ≡ filled (λ i. valueOf (jobOf (now (words .entry))) i (getD (now (v .entry)) i nan)) n 0 (replicate 280 (pos 0)) ⌝ }
+{
+    let mut made = [0i64; PROPOSAL_WORDS];
+    let mut i = 0;
+    while i < n {
+        let x = v[i];
+        made[i] = value_at(words, i, x);
+        i += 1;
+    }
+    made
+}
+
+fn write_values(words: &[i64], v: [f64; CELLS], out: &mut [u8]) -> Outcome
+    requires { ⌜ Known (now words) ⌝ }
+    ensures { λ r. ⌜ (r ≡ writtenOf (length (now (out .entry))) (jobOf (now (words .entry))) v .outcome) × (now (out .exit) ≡ sets (now (out .entry)) 0 (writtenOf (length (now (out .entry))) (jobOf (now (words .entry))) v .bytes)) ⌝ }
+{
+    let n = cells_of(words);
+    let links = links_of(words, n);
+    let values = values_of(words, n, &v);
+    let count = n + links;
+    jobs::proposal::write_proposal(&values[0..count], n as u64, links as u64, out)
+}
+
+// The proposal for the words of a job that was read.
+pub fn propose_for(words: &[i64], out: &mut [u8]) -> Outcome
+    requires { ⌜ Known (now words) ⌝ }
+    ensures { λ r. ⌜ (r ≡ proposedOf (length (now (out .entry))) (jobOf (now (words .entry))) .outcome) × (now (out .exit) ≡ sets (now (out .entry)) 0 (proposedOf (length (now (out .entry))) (jobOf (now (words .entry))) .bytes)) ⌝ }
+{
+    let solved = solve_job(words);
+    let ending = solved.ending;
+    match ending {
+        Ending::Thin(cell, _) => Outcome::Refused(10, cell),
+        Ending::Whole => {
+            let v = solved.values;
+            write_values(words, v, out)
+        }
+    }
+}
+
+// The house proposal for a job pack. A refusal writes nothing; room is tested last. A call takes about 30 KB of stack (29,400 bytes compiled at -O3
+// on x86-64), of which the job's words are 16,696.
+pub fn propose(job: &[u8], out: &mut [u8]) -> Outcome
+    ensures { λ r. ⌜ (r ≡ proposeOf (length (now (out .entry))) (now (job .entry)) .outcome) × (now (out .exit) ≡ sets (now (out .entry)) 0 (proposeOf (length (now (out .entry))) (now (job .entry)) .bytes)) ⌝ }
+{
+    let mut words = [0i64; jobs::job::JOB_WORDS];
+    let r = packs::reading::read(job, Field::Society, &mut words);
+    match r {
+        Outcome::Done(k) => propose_for(&words[0..k], out),
+        Outcome::Refused(number, place) => Outcome::Refused(number, place),
+    }
+}

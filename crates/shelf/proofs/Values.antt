@@ -1,0 +1,66 @@
+-- Lists of signed numbers and their sizes, and a list that was stored over zeros: it stands in front, and zeros are after it.
+use mathlib.Core.Path.{_≡_, refl, ap, _∙_}
+use mathlib.Core.List.{List, [], _∷_, _++_, map}
+use Prim.Native.Nat.{ℕ, zero, suc, _+_, _≤_}
+use native.Mathlib.Omega.{arith}
+use lib.IntN.{ℤ, pos, natAbs}
+use lib.ListN.{length, take, drop, getD, replicate, length-replicate}
+use lib.Seq.{sets, sets-eq, length-sets, getD-drop, take-append-le}
+use lib.Dec.{lit<}
+use mir.Syntax.{w64}
+use mir.Val.{toZ, ofZ}
+use Rattle.whole.proofs.Fits.{small-fits, gives}
+use Rattle.jobs.specs.Words.{wordAt}
+use Rattle.shelf.specs.Given.{firstValues}
+
+-- ---- sizes
+pub length-map : (f : ℤ → ℕ) (xs : List ℤ) → length (map f xs) ≡ length xs
+length-map f [] = refl
+length-map f (x ∷ xs) = ap suc (length-map f xs)
+
+pub map-at : (xs : List ℤ) (i : ℕ) → getD (map natAbs xs) i 0 ≡ natAbs (wordAt xs i)
+map-at [] i = refl
+map-at (x ∷ xs) zero = refl
+map-at (x ∷ xs) (suc i) = map-at xs i
+
+map-append : (f : ℤ → ℕ) (xs ys : List ℤ) → map f (xs ++ ys) ≡ map f xs ++ map f ys
+map-append f [] ys = refl
+map-append f (x ∷ xs) ys = ap (λ (l : List ℕ). f x ∷ l) (map-append f xs ys)
+
+-- the first n of a list of at least n are the first n of any list that it begins
+pub first-append : (n : ℕ) (xs ys : List ℤ) → n ≤ length xs → firstValues n (xs ++ ys) ≡ firstValues n xs
+first-append n xs ys h = ap (take n) (map-append natAbs xs ys) ∙ take-append-le n (map natAbs xs) (map natAbs ys) (omega (arith, length-map natAbs xs))
+
+-- a small number in a signed local is that number
+pub word-read : (z : ℤ) → natAbs z ≤ 4294967295 → natAbs (toZ w64 (ofZ w64 z)) ≡ natAbs z
+word-read z h = ap (λ (y : ℤ). natAbs y) (gives refl (small-fits z h (lit< tt)))
+
+-- ---- zeros
+zero-at : (n i : ℕ) → wordAt (replicate n (pos 0)) i ≡ pos 0
+zero-at zero i = refl
+zero-at (suc n) zero = refl
+zero-at (suc n) (suc i) = zero-at n i
+
+past-end : (xs zs : List ℤ) → ((i : ℕ) → wordAt zs i ≡ pos 0) → (i : ℕ) → wordAt (xs ++ zs) i ≡ wordAt xs i
+past-end [] zs h i = h i
+past-end (x ∷ xs) zs h zero = refl
+past-end (x ∷ xs) zs h (suc i) = past-end xs zs h i
+
+-- ---- a list stored over m zeros
+module _ (m : ℕ) (ws : List ℤ) (room : length ws ≤ m) (scratch : List ℤ) (stored : scratch ≡ sets (replicate m (pos 0)) 0 ws) where
+  long : length (replicate m (pos 0)) ≡ m
+  long = length-replicate m (pos 0)
+
+  in-front : scratch ≡ ws ++ drop (0 + length ws) (replicate m (pos 0))
+  in-front = stored ∙ sets-eq ws (replicate m (pos 0)) 0 (omega (arith, long))
+
+  pub scratch-length : length scratch ≡ m
+  scratch-length = ap length stored ∙ length-sets (replicate m (pos 0)) 0 ws ∙ long
+
+  pub same-word : (i : ℕ) → wordAt scratch i ≡ wordAt ws i
+  same-word i =
+      ap (λ (l : List ℤ). wordAt l i) in-front
+      ∙ past-end ws (drop (0 + length ws) (replicate m (pos 0))) (λ k. getD-drop (0 + length ws) (replicate m (pos 0)) k (pos 0) ∙ zero-at m (0 + length ws + k)) i
+
+  pub same-values : (n : ℕ) → n ≤ length ws → firstValues n scratch ≡ firstValues n ws
+  same-values n h = ap (firstValues n) in-front ∙ first-append n ws (drop (0 + length ws) (replicate m (pos 0))) h

@@ -1,0 +1,52 @@
+-- The last slot's words stayed as they were, and the table is put there.
+use Rattle.shelf.specs.Slots.{slotOf}
+use Rattle.shelf.proofs.Placed.{push-is}
+use borrow.Author.Needs.{needs}
+use Rattle.shelf.proofs.slots.push.Statement.{statement}
+use Rattle.shelf.proofs.slots.push.Tie as tie
+
+shift-down-requires : tie.Need-shift-down-requires
+shift-down-requires c κs = search needs
+
+sub-at : tie.Need-sub-at
+sub-at c = search needs
+
+mul-put-table : tie.Need-mul-put-table
+mul-put-table c = search needs
+
+sub-put-table : tie.Need-sub-put-table
+sub-put-table c = search needs
+
+part-put-table-start : tie.Need-part-put-table-start
+part-put-table-start c = search needs
+
+part-put-table-end : tie.Need-part-put-table-end
+part-put-table-end c = search needs
+
+put-table-requires : tie.Need-put-table-requires
+put-table-requires c κs = search needs
+
+same-length : tie.Need-same-length
+same-length c = search needs
+
+returns : tie.Need-returns
+returns c =
+    let put = c .before .before in
+    let shift = put .before .before .before .before in
+    let start = shift .before .before .before .before in
+    let a = start .args in
+    push-is 126 (a .span .now) (start .pre .0) (slotOf 126 (a .job) (a .loss) (a .gap) (a .values .now)) (shift .shift-down .last .0) (shift .shift-down .ensures) (put .put-table .last .0) (put .put-table .ensures)
+
+pub push-spec : {M : Type 1} → statement M
+push-spec =
+    tie.close
+    (tie.spec
+    shift-down-requires
+    sub-at
+    mul-put-table
+    sub-put-table
+    part-put-table-start
+    part-put-table-end
+    put-table-requires
+    same-length
+    returns)

@@ -1,0 +1,42 @@
+-- What a keep goes by (document 01, "The shelf": "Keeping runs the check; if accepted, the table goes …"): the check's verdict on two packs, the
+-- society and the job number that the job pack names, and the values of the proposal.
+use Prim.Native.Nat.{ℕ}
+use mathlib.Core.Bool.{Bool, true, false}
+use mathlib.Core.List.{List, map}
+use lib.IntN.{natAbs}
+use lib.ListN.{take}
+use Rattle.jobs.specs.Job.{Job}
+use Rattle.jobs.specs.Words.{jobOf}
+use Rattle.jobs.specs.Packs.{readJob, readProposal}
+use Rattle.measure.specs.declared.check.Verdict.{Verdict}
+use Rattle.measure.specs.declared.check.Verdict.the-variants.{Accepted, Refused}
+use Rattle.measure.specs.Check.{checkOf}
+use Rattle.shelf.specs.declared.Answer.{Answer}
+
+pub record Checked : Type 0 where
+  pub verdict : Verdict
+  pub society : ℕ
+  pub job : ℕ
+  pub values : List ℕ
+
+-- The values of a proposal for a job: its first n numbers.
+abbrev pub valuesOf : Job → (proposal : List ℕ) → List ℕ
+valuesOf j proposal = take (j .cells) (map natAbs (readProposal (j .cells) (j .links) proposal .words))
+
+unfoldable pub checkedOf : (job proposal : List ℕ) → Checked
+checkedOf job proposal = record {
+  verdict = checkOf job proposal;
+  society = jobOf (readJob job .words) .society;
+  job = jobOf (readJob job .words) .number;
+  values = valuesOf (jobOf (readJob job .words)) proposal;
+}
+
+abbrev pub accepted : Verdict → Bool
+accepted (Accepted F G) = true
+accepted (Refused number place) = false
+
+-- Document 01's number, place, F and G for each verdict: "Check, keep and fetch give the table's F and G; they are 0 on refusal". A shelf is no
+-- output, so the place of a keep that is done is 0.
+abbrev pub answerOf : Verdict → Answer
+answerOf (Accepted F G) = record { number = 0; place = 0; loss = natAbs F; gap = natAbs G }
+answerOf (Refused number place) = record { number = number; place = place; loss = 0; gap = 0 }

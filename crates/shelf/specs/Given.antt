@@ -1,0 +1,40 @@
+-- What the functions that keep an accepted table count on: the numbers of the two packs lie in the ranges of document 01, "Numbers allowed".
+use Prim.Native.Nat.{ℕ, _≤_, _<_}
+use mathlib.Core.Path.{_≡_}
+use mathlib.Core.List.{List, map}
+use lib.IntN.{ℤ, natAbs}
+use lib.ListN.{length, take}
+use Rattle.jobs.specs.Words.{wordAt, countAt, cellsOf, linksOf}
+use Rattle.jobs.specs.Packs.{readProposal}
+use Rattle.shelf.specs.Slots.{slotOf, keptIn}
+use Rattle.shelf.specs.Shelf.{base, onSociety}
+
+-- A job's words, with zeros after them up to 2,087.
+pub record JobWords (words : List ℤ) : Type 0 where
+  pub room : length words ≡ 2087
+  pub society : countAt words 0 ≤ 7
+  pub number : countAt words 1 ≤ 4294967295
+  pub cells : cellsOf words ≤ 120
+  pub links : linksOf words ≤ 160
+
+-- The numbers of a proposal, of which the first n are values.
+pub record Rates (n : ℕ) (rates : List ℤ) : Type 0 where
+  pub few : n ≤ 120
+  pub inside : n ≤ length rates
+  pub small : (i : ℕ) → i < n → natAbs (wordAt rates i) ≤ 1000000
+
+-- A proposal pack for such a job.
+abbrev pub rates : (words : List ℤ) (proposal : List ℕ) → List ℤ
+rates words proposal = readProposal (cellsOf words) (linksOf words) proposal .words
+
+pub record Given (words : List ℤ) (proposal : List ℕ) : Type 0 where
+  pub job : JobWords words
+  pub values : Rates (cellsOf words) (rates words proposal)
+  pub short : length (rates words proposal) ≤ 280
+
+-- The first n rates as values, and the shelf after a table of that job was kept.
+abbrev pub firstValues : ℕ → List ℤ → List ℕ
+firstValues n rates = take n (map natAbs rates)
+
+abbrev pub keptFrom : (words : List ℤ) (loss gap : ℕ) (values shelf : List ℕ) → List ℕ
+keptFrom words loss gap values shelf = onSociety base (countAt words 0) (keptIn 126 4 (countAt words 1) (slotOf 126 (countAt words 1) loss gap values)) shelf

@@ -1,0 +1,113 @@
+// Keeping an accepted table: the check's verdict, then what the two packs name, then the society's slots.
+ghost use mathlib.Core.Path.{_≡_};
+ghost use mathlib.Core.List.{_++_};
+ghost use Prim.Native.Nat.{_≤_, _<_};
+ghost use lib.IntN.{natAbs};
+ghost use lib.ListN.{length, drop};
+ghost use Rattle.jobs.specs.Words.{countAt, cellsOf};
+ghost use Rattle.measure.specs.declared.check.Verdict.the-variants.{Accepted};
+ghost use Rattle.measure.specs.Check.{checkOf};
+ghost use Rattle.shelf.specs.Checked.{checkedOf};
+ghost use Rattle.shelf.specs.Shelf.{base, keptShelf, keepReply};
+ghost use Rattle.shelf.specs.Given.{JobWords, Rates, Given, rates, firstValues, keptFrom};
+use crate::Answer;
+use crate::societies::keep_society;
+use crate::span::plain;
+use fields::Field;
+use measure::check::Verdict;
+
+// The size of a signed number: the number itself, where it is not negative.
+fn size_of(x: i64) -> u64
+    ensures { λ r. ⌜ r ≡ natAbs x ⌝ }
+{
+    if x < 0 {
+        let less = (-1 - x) as u64;
+        return less + 1;
+    }
+    x as u64
+}
+
+// The count that stands at `at`: a word of 32 bits at most.
+fn count_at(words: &[i64], at: usize) -> u64
+    requires { ⌜ (at < length (now words)) × (countAt (now words) at ≤ 4294967295) ⌝ }
+    ensures { λ r. ⌜ r ≡ countAt (now (words .entry)) at ⌝ }
+{
+    size_of(words[at])
+}
+
+// The first n rates, as words of a slot.
+fn copy_rates(rates: &[i64], n: usize, values: &mut [u32])
+    requires { ⌜ Rates n (now rates) × (n ≤ length (now values)) ⌝ }
+    ensures { λ _. ⌜ now (values .exit) ≡ firstValues n (now (rates .entry)) ++ drop n (now (values .entry)) ⌝ }
+{
+    let mut i: usize = 0;
+    while i < n {
+        let rate = count_at(rates, i);
+        values[i] = rate as u32;
+        i += 1;
+    }
+}
+
+// Keep the first n rates under the society and the number of a job's words.
+fn keep_rates(shelf: &mut [u32], words: &[i64], rates: &[i64], n: usize, loss: u64, gap: u64)
+    requires { ⌜ (length (now shelf) ≡ 4032) × JobWords (now words) × Rates n (now rates) ⌝ }
+    ensures { λ _. ⌜ now (shelf .exit) ≡ keptFrom (now (words .entry)) loss gap (firstValues n (now (rates .entry))) (now (shelf .entry)) ⌝ }
+{
+    let mut values = [0u32; 120];
+    copy_rates(rates, n, &mut values);
+    let society = count_at(words, 0);
+    let number = count_at(words, 1);
+    keep_society(
+        shelf,
+        society as u32,
+        number as u32,
+        loss,
+        gap,
+        &values[0..n],
+    );
+}
+
+// Keep the values of a proposal pack for a job's words.
+fn keep_words(shelf: &mut [u32], words: &[i64], proposal: &[u8], loss: u64, gap: u64)
+    requires { ⌜ (length (now shelf) ≡ 4032) × Given (now words) (now proposal) ⌝ }
+    ensures { λ _. ⌜ now (shelf .exit) ≡ keptFrom (now (words .entry)) loss gap (firstValues (cellsOf (now (words .entry))) (rates (now (words .entry)) (now (proposal .entry)))) (now (shelf .entry)) ⌝ }
+{
+    let n = count_at(words, 2);
+    let at = 6 + 4 * (n as usize);
+    let links = count_at(words, at);
+    let mut read = [0i64; 280];
+    jobs::proposal::read_proposal(proposal, n, links, &mut read);
+    keep_rates(shelf, words, &read, n as usize, loss, gap);
+}
+
+// Keep the table of two packs that the check has accepted with that loss and gap.
+fn keep_packs(shelf: &mut [u32], job: &[u8], proposal: &[u8], loss: i64, gap: i64) -> Answer
+    requires { ⌜ (length (now shelf) ≡ 4032) × (checkOf (now job) (now proposal) ≡ Accepted loss gap) ⌝ }
+    ensures answer { λ r. ⌜ r ≡ keepReply (checkedOf (now (job .entry)) (now (proposal .entry))) .answer ⌝ }
+    ensures shelf { λ _. ⌜ now (shelf .exit) ≡ keptShelf base (checkedOf (now (job .entry)) (now (proposal .entry))) (now (shelf .entry)) ⌝ }
+{
+    let mut words = [0i64; 2087];
+    packs::reading::read(job, Field::Society, &mut words);
+    let f = size_of(loss);
+    let g = size_of(gap);
+    keep_words(shelf, &words, proposal, f, g);
+    Answer {
+        number: 0,
+        place: 0,
+        loss: f,
+        gap: g,
+    }
+}
+
+// Check the proposal, and keep its table where it is accepted.
+pub fn keep_checked(shelf: &mut [u32], job: &[u8], proposal: &[u8]) -> Answer
+    requires { ⌜ length (now shelf) ≡ 4032 ⌝ }
+    ensures answer { λ r. ⌜ r ≡ keepReply (checkedOf (now (job .entry)) (now (proposal .entry))) .answer ⌝ }
+    ensures shelf { λ _. ⌜ now (shelf .exit) ≡ keptShelf base (checkedOf (now (job .entry)) (now (proposal .entry))) (now (shelf .entry)) ⌝ }
+{
+    let verdict = measure::check::check(job, proposal);
+    match verdict {
+        Verdict::Accepted { loss, gap } => keep_packs(shelf, job, proposal, loss, gap),
+        Verdict::Refused { number, place } => plain(number, place as u64),
+    }
+}

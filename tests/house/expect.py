@@ -1,0 +1,181 @@
+#!/usr/bin/env python3
+"""What the program house_cases has to print, computed apart from the crates: the jobs' packs and the house proposal, from document 01 alone.
+
+  tests/house/expect.py          writes crates/house_cases/stdin and crates/house_cases/stdout
+  tests/house/expect.py --check  compares them: the last line counts the stored files that are, and are not, what it computes
+
+A Python float is an IEEE double, and each operation on it is rounded once: no multiply-add is fused. The matrix is made from all difference
+rows as whole numbers, without a band.
+
+The input is a list of cases: the pack's length and the output's room, two bytes each, low byte first, then the pack. A case prints one line: the
+outcome's number and place and, where it is done, the bytes of the proposal pack, in decimal.
+"""
+import math, sys
+from fractions import Fraction
+from pathlib import Path
+
+ROWS = {1: [-1, 1], 2: [1, -2, 1], 3: [-1, 3, -3, 1], 4: [1, -4, 6, -4, 1]}
+ROOM = 1024
+
+# ---- packs
+
+def number(x):
+    out = []
+    while x >= 128:
+        out.append(x % 128 + 128)
+        x //= 128
+    return bytes(out + [x])
+
+def signed(x):
+    return number(2 * x if x >= 0 else -2 * x - 1)
+
+class Job:
+    def __init__(self, order, k, cells, links=(), society=3, job=7, tolerance=0):
+        self.society, self.job, self.order, self.k, self.tolerance = society, job, order, k, tolerance
+        self.cells, self.links = cells, list(links)
+
+    def pack(self):
+        head = [self.society, self.job, len(self.cells), self.order, self.k, self.tolerance]
+        out = b''.join(number(x) for x in head)
+        for cell in self.cells:
+            out += b''.join(number(x) for x in cell)
+        out += number(len(self.links))
+        for terms, b in self.links:
+            out += number(len(terms)) + b''.join(number(c) + signed(s) for c, s in terms) + signed(b)
+        return out
+
+# ---- the house proposal
+
+def matrix(n, z, k, w):
+    a = [[0] * n for _ in range(n)]
+    for i in range(n):
+        a[i][i] = w[i]
+    for r in range(n - z):
+        for p, s in enumerate(ROWS[z]):
+            for q, t in enumerate(ROWS[z]):
+                a[r + p][r + q] += k * s * t
+    return a
+
+def values(job):
+    """The values before rounding, or the cell that is thin."""
+    n, z = len(job.cells), job.order or 2
+    w = [c[1] for c in job.cells]
+    a = matrix(n, z, job.k, w)
+    low = [[0.0] * n for _ in range(n)]
+    d = [0.0] * n
+    for j in range(n):
+        first = max(0, j - z)
+        for i in range(first, j):
+            x = float(a[j][i])
+            for m in range(first, i):
+                x = x - (low[j][m] * d[m]) * low[i][m]
+            low[j][i] = x / d[i]
+        x = float(a[j][j])
+        for m in range(first, j):
+            x = x - (low[j][m] * d[m]) * low[j][m]
+        d[j] = x
+        if not x > 1 / 1024:
+            return None, j
+    y = [0.0] * n
+    for j in range(n):
+        x = float(w[j] * job.cells[j][0])
+        for m in range(max(0, j - z), j):
+            x = x - low[j][m] * y[m]
+        y[j] = x
+    v = [y[j] / d[j] for j in range(n)]
+    for j in reversed(range(n)):
+        x = v[j]
+        for m in range(j + 1, min(n - 1, j + z) + 1):
+            x = x - low[m][j] * v[m]
+        v[j] = x
+    return v, None
+
+def rounded(v, lo, hi):
+    if not v > lo:
+        return lo
+    if not v < hi:
+        return hi
+    return math.floor(Fraction(v) + Fraction(1, 2))
+
+def outcome(job, room):
+    v, thin = values(job)
+    if v is None:
+        return [10, thin]
+    out = b''.join(number(rounded(x, c[2], c[3])) for x, c in zip(v, job.cells)) + bytes(len(job.links))
+    return [13, len(out)] if len(out) > room else [0, len(out), *out]
+
+# ---- the cases
+
+class Dice:
+    def __init__(self, seed):
+        self.state = seed
+
+    def upto(self, most):
+        self.state = (self.state * 6364136223846793005 + 1442695040888963407) % 2**64
+        return (self.state >> 33) % (most + 1)
+
+def table(dice, n, rates=1000000, weights=1000, gaps=0):
+    """Cells of a smooth table with noise; one weight in `gaps` is 0."""
+    cells = []
+    for i in range(n):
+        u = min(rates, rates * (i + 1) // (2 * n) + dice.upto(rates // 4))
+        w = 0 if gaps and dice.upto(gaps) == 0 else 1 + dice.upto(weights - 1)
+        lo = dice.upto(u)
+        cells.append((u, w, lo, lo + dice.upto(rates - lo)))
+    return cells
+
+def chain(n, count):
+    return [([(i % (n - 1), 1), (i % (n - 1) + 1, -1)], 0) for i in range(count)]
+
+def on_a_half(dice, order):
+    """A job of the order with a value that falls on a half exactly, inside its box."""
+    while True:
+        job = Job(order, 1 + dice.upto(7), [(dice.upto(20), 1 + dice.upto(7), 0, 100) for _ in range(order + 2)])
+        v, thin = values(job)
+        if v is not None and any(0 < x < 100 and x - math.floor(x) == 0.5 for x in v):
+            return job
+
+def cases():
+    thin = Job(2, 1000, [(0, 1, 0, 100)] * 2 + [(0, 0, 0, 100)] * 118)
+    made = [(thin, ROOM)]
+    dice = Dice(1)
+    for order in (1, 2, 3, 4):
+        made.append((Job(order, 1 + dice.upto(9), table(dice, order + 1, 100, 3)), ROOM))
+        made.append((Job(order, 1 + dice.upto(999), table(dice, 30, 1000, gaps=3)), ROOM))
+        made.append((Job(order, 1 + dice.upto(999), table(dice, 120, gaps=5), chain(120, 40 * order)), ROOM))
+        made.append((Job(order, 1, [(u, w, 0, 1000000) for u, w, _, _ in table(dice, 60)]), ROOM))
+        made.append((Job(order, 1000, [(u, 1, 0, 1000000) for u, _, _, _ in table(dice, 120)]), ROOM))
+    made.append((Job(0, 20, table(dice, 12, 5000)), ROOM))
+    made.append((Job(2, 1, [(0, 1, 0, 100), (7, 1, 0, 100), (0, 1, 0, 100)]), ROOM))
+    made.append((Job(1, 7, [(50, 2, 40, 40), (10, 3, 60, 70), (90, 1, 0, 5)]), ROOM))
+    made += [(on_a_half(dice, 1), ROOM), (on_a_half(dice, 2), ROOM)]
+    short = Job(3, 10, table(dice, 20, 900000))
+    size = outcome(short, ROOM)[1]
+    made += [(short, size - 1), (short, size), (thin, 0)]
+    done = [(job.pack(), room, outcome(job, room)) for job, room in made]
+    # the job's own refusals, each with the number and place that document 01 gives
+    cell, three = (5, 1, 0, 9), [(5, 1, 0, 9)] * 3
+    done.append((b'', ROOM, [1, 0]))
+    done.append((Job(2, 1, three).pack() + b'\0', ROOM, [1, len(Job(2, 1, three).pack())]))
+    done.append((Job(0, 1, [cell] * 2).pack(), ROOM, [2, 3]))
+    done.append((Job(2, 1, three, society=8).pack(), ROOM, [2, 0]))
+    done.append((Job(2, 1, [cell, (5, 1, 9, 8), cell]).pack(), ROOM, [3, 1]))
+    done.append((Job(2, 1, [cell, (5, 0, 0, 9), (5, 0, 0, 9)]).pack(), ROOM, [4, 0]))
+    done.append((Job(2, 1, three, [([(0, 1), (1, -1)], 0), ([(1, 1), (1, 1)], 0)]).pack(), ROOM, [5, 1]))
+    return done
+
+def main():
+    made = cases()
+    given = b''.join(len(p).to_bytes(2, 'little') + r.to_bytes(2, 'little') + p for p, r, _ in made)
+    told = ''.join(' '.join(str(x) for x in o) + '\n' for _, _, o in made).encode()
+    crate = Path(__file__).resolve().parents[2] / 'crates' / 'house_cases'
+    if sys.argv[1:] == ['--check']:
+        wrong = [name for name, text in (('stdin', given), ('stdout', told)) if (crate / name).read_bytes() != text]
+        for name in wrong:
+            print(f'{crate / name} is not what is computed')
+        print(f'{2 - len(wrong)} passed, {len(wrong)} failed')
+        sys.exit(1 if wrong else 0)
+    (crate / 'stdin').write_bytes(given)
+    (crate / 'stdout').write_bytes(told)
+
+main()

@@ -1,3 +1,4 @@
 pub mod Tests
 pub mod Others
 pub mod Rows
+pub mod Budget

@@ -10,3 +10,4 @@ pub mod Readings
 pub mod Handed
 pub mod Trips
 pub mod Examples
+pub mod Near

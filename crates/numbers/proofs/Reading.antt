@@ -1,4 +1,5 @@
--- What reading a number at an offset finds: the next byte decides, the value of g groups is below 128 ^ g, and the offset after it lies inside.
+-- What reading a number at an offset finds: the next byte decides, the value of g groups is below 128 ^ g, and the offset after it lies inside and
+-- no further on than its groups.
 use Prim.Native.Nat.{ℕ, zero, suc, _+_, _-_, _*_, _%_, _^_, _≤_, _<_}
 use mathlib.Core.Path.{_≡_, refl}
 use mathlib.Core.Bool.{Bool, true, false}
@@ -77,3 +78,14 @@ offset-after (suc g) (b ∷ bytes) at v n e = go (ltb b 128) e (λ w m. offset-a
         → ((w m : ℕ) → numberIn g bytes (at + 1) ≡ Value w m → (at + 1 < m) × (m ≤ at + 1 + length bytes)) → (at < n) × (n ≤ at + length (b ∷ bytes))
     go true e ih = let q : at + 1 ≡ n = cc in omega arith
     go false e ih = after-joined b at (length bytes) (numberIn g bytes (at + 1)) ih e
+
+pub offset-near : (g : ℕ) (bytes : List ℕ) (at v n : ℕ) → numberIn g bytes at ≡ Value v n → (at < n) × (n ≤ at + g)
+unfolding numberIn
+offset-near zero bytes at v n e = clash (cc)
+offset-near (suc g) [] at v n e = clash (cc)
+offset-near (suc g) (b ∷ bytes) at v n e = go (ltb b 128) e (λ w m. offset-near g bytes (at + 1) w m)
+  where
+    go : (t : Bool) → (if t then Value b (at + 1) else joined b (numberIn g bytes (at + 1))) ≡ Value v n
+        → ((w m : ℕ) → numberIn g bytes (at + 1) ≡ Value w m → (at + 1 < m) × (m ≤ at + 1 + g)) → (at < n) × (n ≤ at + suc g)
+    go true e ih = let q : at + 1 ≡ n = cc in omega arith
+    go false e ih = after-joined b at g (numberIn g bytes (at + 1)) ih e

@@ -4,3 +4,4 @@ pub mod Onto
 pub mod Packed
 pub mod Packable
 pub mod Trips
+pub mod Near

@@ -17,7 +17,7 @@ use fields::Field;
 use measure::check::Verdict;
 
 // The size of a signed number: the number itself, where it is not negative.
-fn size_of(x: i64) -> u64
+pub fn size_of(x: i64) -> u64
     ensures { λ r. ⌜ r ≡ natAbs x ⌝ }
 {
     if x < 0 {

@@ -1,0 +1,57 @@
+-- The eight calls over C: each call's answer, what it leaves in the slice that it writes to, and its claim, which its contract cites.
+use Prim.Native.Nat.{ℕ}
+use mathlib.Core.List.{List, []}
+use lib.IntN.{ℤ}
+use lib.ListN.{length}
+use lib.Seq.{sets}
+use Rattle.packs.specs.declared.Outcome.{Outcome}
+use Rattle.packs.specs.declared.Outcome.the-variants.{Done, Refused}
+use Rattle.packs.specs.Reading.{Ran}
+use Rattle.packs.specs.Writing.{Written, roomed}
+use Rattle.jobs.specs.Packs.{readJobInto, writeJob}
+use Rattle.measure.specs.Check.{checkOf}
+use Rattle.house.specs.Proposal.{proposeOf}
+use Rattle.shelf.specs.declared.Answer.{Answer}
+use Rattle.shelf.specs.Slots.{refusal, overwritten}
+use Rattle.shelf.specs.Checked.{answerOf}
+use Rattle.shelf.specs.Shelf.{base}
+use Rattle.shelf.specs.Calls.{Call, keep, fetch, forget, clear, after, said}
+use Rattle.bench.specs.Answers.{Says}
+
+-- ---- a proposal checked, and one made
+
+-- The check writes to nothing but its answer.
+abbrev pub CheckSays : (job proposal answer : List ℕ) → (returned : ℕ) (answered : List ℕ) → Type 0
+CheckSays job proposal answer returned answered = Says {A = ℕ} (answerOf (checkOf job proposal)) answer [] [] returned answered []
+
+-- "0: done: bytes of pack or text, or values, written to an output"
+abbrev pub outcomeOf : Outcome → Answer
+outcomeOf (Done n) = refusal 0 n .answer
+outcomeOf (Refused number place) = refusal number place .answer
+
+-- Bytes written, in front of the bytes that were lent.
+abbrev pub WriterSays : Written → (out answer : List ℕ) → (returned : ℕ) (answered left : List ℕ) → Type 0
+WriterSays written out answer = Says (outcomeOf (written .outcome)) answer out (sets out 0 (written .bytes))
+
+abbrev pub ProposeSays : (job out answer : List ℕ) → (returned : ℕ) (answered left : List ℕ) → Type 0
+ProposeSays job out answer = WriterSays (proposeOf (length out) job) out answer
+
+-- ---- a job's words read, and written
+
+abbrev pub ReadSays : (job : List ℕ) (words : List ℤ) (answer : List ℕ) → (returned : ℕ) (answered : List ℕ) (left : List ℤ) → Type 0
+ReadSays job words answer =
+    Says (outcomeOf (readJobInto (length words) job .outcome)) answer words (sets words 0 (readJobInto (length words) job .words))
+
+abbrev pub WriteSays : (words : List ℤ) (out answer : List ℕ) → (returned : ℕ) (answered left : List ℕ) → Type 0
+WriteSays words out answer = WriterSays (roomed (length out) (writeJob words)) out answer
+
+-- ---- the shelf
+
+-- Keep, forget and clear change the shelf and write to no output.
+abbrev pub ShelfSays : (call : Call) → (shelf answer : List ℕ) → (returned : ℕ) (answered left : List ℕ) → Type 0
+ShelfSays call shelf answer = Says (said base shelf call .answer) answer shelf (after base shelf call)
+
+-- Fetch hands out its values in front of the words that were lent.
+abbrev pub FetchSays : (shelf : List ℕ) (society job : ℕ) (out answer : List ℕ) → (returned : ℕ) (answered left : List ℕ) → Type 0
+FetchSays shelf society job out answer =
+    Says (said base shelf (fetch society job (length out)) .answer) answer out (overwritten out (said base shelf (fetch society job (length out)) .values))

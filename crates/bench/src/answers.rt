@@ -1,0 +1,61 @@
+// What every call ends with: number, place, F and G in the lent answer, and one number returned that tells number and place.
+ghost use mathlib.Core.Path.{_≡_};
+ghost use mathlib.Core.List.{List};
+ghost use Prim.Native.Nat.{_^_, _<_};
+ghost use lib.ListN.{length};
+ghost use Rattle.shelf.specs.Checked.{answerOf};
+ghost use Rattle.bench.specs.Answers.{codeOf, wordsOf};
+ghost use Rattle.bench.specs.Calls.{outcomeOf};
+use measure::check::Verdict;
+use packs::Outcome;
+use shelf::Answer;
+use shelf::accepted::size_of;
+use shelf::plain;
+
+// The words of an answer.
+pub const ANSWER_WORDS: usize = 4;
+
+// What a call returns whose answer slice is not that long: 13, place 4.
+pub const NO_ANSWER: u64 = 141;
+
+// Write the answer and return its number and place as one.
+pub fn give(answer: &mut [u64], a: Answer) -> u64
+    requires { ⌜ (length (now answer) ≡ 4) × (codeOf a < 2 ^ 64) ⌝ }
+    ensures { λ r. ⌜ (r ≡ codeOf a) × (now (answer .exit) ≡ wordsOf a) ⌝ }
+{
+    answer[0] = a.number;
+    answer[1] = a.place;
+    answer[2] = a.loss;
+    answer[3] = a.gap;
+    let far = 32 * a.place;
+    far + a.number
+}
+
+// The answer for a verdict of the check.
+pub fn of_verdict(verdict: Verdict) -> Answer
+    ensures { λ r. ⌜ r ≡ answerOf verdict ⌝ }
+{
+    match verdict {
+        Verdict::Accepted { loss, gap } => {
+            let loss = size_of(loss);
+            let gap = size_of(gap);
+            Answer {
+                number: 0,
+                place: 0,
+                loss,
+                gap,
+            }
+        }
+        Verdict::Refused { number, place } => plain(number, place as u64),
+    }
+}
+
+// The answer for how reading or writing a pack ends.
+pub fn of_outcome(outcome: Outcome) -> Answer
+    ensures { λ r. ⌜ r ≡ outcomeOf outcome ⌝ }
+{
+    match outcome {
+        Outcome::Done(n) => plain(0, n as u64),
+        Outcome::Refused(number, place) => plain(number, place as u64),
+    }
+}

@@ -1,0 +1,31 @@
+// A proposal checked, and the house's own made.
+ghost use Rattle.bench.specs.Calls.{CheckSays, ProposeSays};
+use crate::answers::ANSWER_WORDS;
+use crate::answers::NO_ANSWER;
+use crate::answers::give;
+use crate::answers::of_outcome;
+use crate::answers::of_verdict;
+
+// Check a proposal pack against a job pack.
+#[no_mangle]
+pub extern "C" fn bench_check(job: &[u8], proposal: &[u8], answer: &mut [u64]) -> u64
+    ensures { λ r. ⌜ CheckSays (now (job .entry)) (now (proposal .entry)) (now (answer .entry)) r (now (answer .exit)) ⌝ }
+{
+    if answer.len() != ANSWER_WORDS {
+        return NO_ANSWER;
+    }
+    let verdict = measure::check::check(job, proposal);
+    give(answer, of_verdict(verdict))
+}
+
+// Write the house proposal for a job pack to the output.
+#[no_mangle]
+pub extern "C" fn bench_propose(job: &[u8], out: &mut [u8], answer: &mut [u64]) -> u64
+    ensures { λ r. ⌜ ProposeSays (now (job .entry)) (now (out .entry)) (now (answer .entry)) r (now (answer .exit)) (now (out .exit)) ⌝ }
+{
+    if answer.len() != ANSWER_WORDS {
+        return NO_ANSWER;
+    }
+    let outcome = house::proposal::propose(job, out);
+    give(answer, of_outcome(outcome))
+}

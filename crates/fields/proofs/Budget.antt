@@ -1,0 +1,176 @@
+-- How far a walk along the table can go: every step takes one number off a field's budget, and the cell or link that a field stands in, which is the
+-- place of the table's own refusals, rises no faster than the budget falls.
+use Prim.Native.Nat.{ℕ, _+_, _-_, _*_, _≤_, _<_}
+use mathlib.Core.Path.{_≡_, refl}
+use mathlib.Core.Bool.{Bool, true, false}
+use native.Mathlib.Omega.{arith}
+use borrow.Author.Tests.{ltb-true, eqb-false}
+use lib.Dec.{leb, ltb, eqb}
+use Rattle.numbers.specs.Choice.{if_then_else_}
+use Rattle.fields.specs.declared.cells.Cells.{Cells}
+use Rattle.fields.specs.declared.links.Links.{Links}
+use Rattle.fields.specs.declared.Field.{Field}
+use Rattle.fields.specs.declared.Field.the-variants.{Society, Job, Count, Order, Constant, Tolerance, Crude, Weight, Floor, Ceiling, LinkCount, TermCount, Cell, Coefficient, Bound, Value, Multiplier, End}
+use Rattle.fields.specs.declared.Step.{Step}
+use Rattle.fields.specs.declared.Step.the-variants.{Next, NotAllowed, Refused}
+use Rattle.fields.specs.Table.{within, withinSigned, rule, orderUsed, cellsFrom, weighed, afterCeiling, withTerms, afterCoefficient, linksFrom, multipliersFrom, valuesFrom, stepOf}
+use Rattle.fields.proofs.Rows.{within-both}
+
+-- ---- the most numbers that can follow, the field's own among them
+
+-- the link count, and 160 links of 10 numbers
+abbrev linkNumbers : ℕ
+linkNumbers = 1601
+
+abbrev cellNumbers : (n : ℕ) → ℕ
+cellNumbers n = 4 + 4 * (n - 1)
+
+abbrev cellsLeft : Cells → ℕ
+cellsLeft c = 4 * (c .n - c .cell - 1) + linkNumbers
+
+abbrev linksLeft : Links → ℕ
+linksLeft l = 10 * (l .links - l .link - 1)
+
+abbrev pub budget : Field → ℕ
+budget Society = 2087
+budget Job = 2086
+budget Count = 2085
+budget (Order n) = 3 + cellNumbers n + linkNumbers
+budget (Constant n z) = 2 + cellNumbers n + linkNumbers
+budget (Tolerance n z) = 1 + cellNumbers n + linkNumbers
+budget (Crude c) = 4 + cellsLeft c
+budget (Weight c) = 3 + cellsLeft c
+budget (Floor c) = 2 + cellsLeft c
+budget (Ceiling c lo) = 1 + cellsLeft c
+budget (LinkCount n) = linkNumbers
+budget (TermCount l) = 10 + linksLeft l
+budget (Cell l) = 3 + 2 * (l .terms - 1) + linksLeft l
+budget (Coefficient l rises) = 2 + 2 * (l .terms - 1) + linksLeft l
+budget (Bound l) = 1 + linksLeft l
+budget (Value left links) = 1 + (left - 1) + links
+budget (Multiplier left) = 1 + (left - 1)
+budget End = 0
+
+-- the cell or the link that a field stands in
+abbrev pub standing : Field → ℕ
+standing (Crude c) = c .cell
+standing (Weight c) = c .cell
+standing (Floor c) = c .cell
+standing (Ceiling c lo) = c .cell
+standing (TermCount l) = l .link
+standing (Cell l) = l .link
+standing (Coefficient l rises) = l .link
+standing (Bound l) = l .link
+standing Society = 0
+standing Job = 0
+standing Count = 0
+standing (Order n) = 0
+standing (Constant n z) = 0
+standing (Tolerance n z) = 0
+standing (LinkCount n) = 0
+standing (Value left links) = 0
+standing (Multiplier left) = 0
+standing End = 0
+
+-- ---- a step keeps to them
+
+pub record Onward (f g : Field) : Type 0 where
+  pub less : budget g + 1 ≤ budget f
+  pub slower : standing g + budget g ≤ standing f + budget f
+
+pub record Own (f : Field) (number place : ℕ) : Type 0 where
+  pub some : 3 ≤ number
+  pub few : number ≤ 5
+  pub near : place ≤ standing f
+
+abbrev pub Kept : Field → Step → Type 0
+Kept f (Next g) = Onward f g
+Kept f NotAllowed = Unit {0}
+Kept f (Refused number place) = Own f number place
+
+ruled : (f : Field) (allowed : Bool) (s : Step) → (allowed ≡ true → Kept f s) → Kept f (rule allowed s)
+ruled f true s k = k refl
+ruled f false s k = tt
+
+after-ceiling : (c : Cells) (lo hi : ℕ) → Kept (Ceiling c lo) (afterCeiling c lo hi)
+after-ceiling c lo hi = go (ltb hi lo) (ltb (c .cell + 1) (c .n)) refl (ltb 0 (c .want))
+  where
+    go : (a b : Bool) → ltb (c .cell + 1) (c .n) ≡ b → (w : Bool)
+        → Kept (Ceiling c lo) (if a then Refused 3 (c .cell) else if b then Next (Crude (record { n = c .n; want = c .want; cell = c .cell + 1 })) else if w then Refused 4 0 else Next (LinkCount (c .n)))
+    go true b e w = record { some = omega arith; few = omega arith; near = omega arith }
+    go false true e w = let h = ltb-true (c .cell + 1) (c .n) e in record { less = omega arith; slower = omega arith }
+    go false false e true = record { some = omega arith; few = omega arith; near = omega arith }
+    go false false e false = record { less = omega arith; slower = omega arith }
+
+links-from : (f : Field) (n links j : ℕ) → 10 * (links - j) + 1 ≤ budget f → j + 10 * (links - j) ≤ standing f + budget f → Onward f (linksFrom n links j)
+links-from f n links j h k = go (ltb j links) refl
+  where
+    go : (t : Bool) → ltb j links ≡ t → Onward f (if t then TermCount (record { n = n; links = links; link = j; terms = 0; least = 0 }) else End)
+    go true e = let l = ltb-true j links e in record { less = omega arith; slower = omega arith }
+    go false e = record { less = omega arith; slower = omega arith }
+
+after-coefficient : (l : Links) (rises : Bool) (x : ℕ) → Kept (Coefficient l rises) (afterCoefficient l rises x)
+after-coefficient l rises x = go (eqb x 0) rises (ltb 1 (l .terms)) refl
+  where
+    go : (a r b : Bool) → ltb 1 (l .terms) ≡ b
+        → Kept (Coefficient l rises) (if a then Refused 5 (l .link) else if r then (if b then Next (Cell (record { n = l .n; links = l .links; link = l .link; terms = l .terms - 1; least = l .least })) else Next (Bound l)) else Refused 5 (l .link))
+    go true r b e = record { some = omega arith; few = omega arith; near = omega arith }
+    go false true true e = let h = ltb-true 1 (l .terms) e in record { less = omega arith; slower = omega arith }
+    go false true false e = record { less = omega arith; slower = omega arith }
+    go false false b e = record { some = omega arith; few = omega arith; near = omega arith }
+
+pub budget-multipliers : (left : ℕ) → (budget (multipliersFrom left) ≤ left) × (standing (multipliersFrom left) ≡ 0)
+budget-multipliers left = go (eqb left 0) refl
+  where
+    go : (t : Bool) → eqb left 0 ≡ t → (budget (if t then End else Multiplier left) ≤ left) × (standing (if t then End else Multiplier left) ≡ 0)
+    go true e = (omega arith, refl)
+    go false e = (omega (arith, eqb-false left 0 e), refl)
+
+pub budget-values : (left links : ℕ) → (budget (valuesFrom left links) ≤ left + links) × (standing (valuesFrom left links) ≡ 0)
+budget-values left links = go (eqb left 0) refl
+  where
+    go : (t : Bool) → eqb left 0 ≡ t
+        → (budget (if t then multipliersFrom links else Value left links) ≤ left + links) × (standing (if t then multipliersFrom links else Value left links) ≡ 0)
+    go true e = let m = budget-multipliers links in (omega (arith, m .0), m .1)
+    go false e = (omega (arith, eqb-false left 0 e), refl)
+
+-- ---- every row of the table
+
+falls : {f g : Field} → budget g + 1 ≤ budget f → standing g ≡ standing f → Onward f g
+falls h e = record { less = h; slower = omega (arith, e) }
+
+pub step-kept : (f : Field) (x : ℕ) → Kept f (stepOf f x)
+unfolding stepOf
+step-kept Society x = ruled Society (within 0 7 x) (Next Job) (λ e. falls (omega arith) refl)
+step-kept Job x = ruled Job (within 0 4294967295 x) (Next Count) (λ e. falls (omega arith) refl)
+step-kept Count x = ruled Count (within 2 120 x) (Next (Order x)) (λ e. falls (omega (arith, within-both 2 120 x e)) refl)
+step-kept (Order n) x =
+    ruled (Order n) (within 0 4 x) (rule (ltb (orderUsed x) n) (Next (Constant n (orderUsed x))))
+    (λ e. ruled (Order n) (ltb (orderUsed x) n) (Next (Constant n (orderUsed x))) (λ e. falls (omega arith) refl))
+step-kept (Constant n z) x = ruled (Constant n z) (within 1 1000 x) (Next (Tolerance n z)) (λ e. falls (omega arith) refl)
+step-kept (Tolerance n z) x = ruled (Tolerance n z) (within 0 1000000000000000 x) (Next (cellsFrom n z)) (λ e. falls (omega arith) refl)
+step-kept (Crude c) x = ruled (Crude c) (within 0 1000000 x) (Next (Weight c)) (λ e. falls (omega arith) refl)
+step-kept (Weight c) x = ruled (Weight c) (within 0 1000 x) (Next (Floor (weighed c x))) (λ e. falls (omega arith) refl)
+step-kept (Floor c) x = ruled (Floor c) (within 0 1000000 x) (Next (Ceiling c x)) (λ e. falls (omega arith) refl)
+step-kept (Ceiling c lo) x = ruled (Ceiling c lo) (within 0 1000000 x) (afterCeiling c lo x) (λ e. after-ceiling c lo x)
+step-kept (LinkCount n) x =
+    ruled (LinkCount n) (within 0 160 x) (Next (linksFrom n x 0))
+    (λ e. let h = within-both 0 160 x e in links-from (LinkCount n) n x 0 (omega arith) (omega arith))
+step-kept (TermCount l) x =
+    ruled (TermCount l) (within 1 4 x) (Next (Cell (withTerms l x))) (λ e. falls (omega (arith, within-both 1 4 x e)) refl)
+step-kept (Cell l) x =
+    ruled (Cell l) (ltb x (l .n))
+    (Next (Coefficient (record { n = l .n; links = l .links; link = l .link; terms = l .terms; least = x + 1 }) (leb (l .least) x)))
+    (λ e. falls (omega arith) refl)
+step-kept (Coefficient l rises) x =
+    ruled (Coefficient l rises) (withinSigned 10 x) (afterCoefficient l rises x) (λ e. after-coefficient l rises x)
+step-kept (Bound l) x =
+    ruled (Bound l) (withinSigned 1000000000 x) (Next (linksFrom (l .n) (l .links) (l .link + 1)))
+    (λ e. links-from (Bound l) (l .n) (l .links) (l .link + 1) (omega arith) (omega arith))
+step-kept (Value left links) x =
+    ruled (Value left links) (within 0 1000000 x) (Next (valuesFrom (left - 1) links))
+    (λ e. let b = budget-values (left - 1) links in falls (omega (arith, b .0)) (b .1))
+step-kept (Multiplier left) x =
+    ruled (Multiplier left) (within 0 1000000000 x) (Next (multipliersFrom (left - 1)))
+    (λ e. let b = budget-multipliers (left - 1) in falls (omega (arith, b .0)) (b .1))
+step-kept End x = tt

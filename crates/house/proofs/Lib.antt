@@ -8,3 +8,4 @@ pub mod Boxed
 pub mod Solving
 pub mod Handing
 pub mod Fitting
+pub mod Thin

@@ -1,0 +1,6 @@
+-- Laws that several proofs cite.
+pub mod Four
+pub mod Endings
+pub mod Small
+pub mod Outcomes
+pub mod Shelves

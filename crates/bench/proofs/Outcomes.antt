@@ -1,0 +1,88 @@
+-- The same for how reading, writing and proposing end.
+use Prim.Native.Nat.{ℕ, zero, suc, _+_, _≤_, _<_}
+use mathlib.Core.Path.{_≡_, refl}
+use mathlib.Core.Bool.{Bool, true, false}
+use mathlib.Core.List.{List, []}
+use native.Mathlib.Omega.{arith}
+use lib.Dec.{ltb}
+use lib.IntN.{ℤ}
+use lib.Ieee.{Float}
+use lib.ListN.{getD, set}
+use Rattle.numbers.specs.Choice.{if_then_else_}
+use Rattle.fields.specs.Table.{valuesFrom}
+use Rattle.packs.specs.declared.Outcome.{Outcome}
+use Rattle.packs.specs.declared.Outcome.the-variants.{Done, Refused}
+use Rattle.packs.specs.Reading.{Ran}
+use Rattle.packs.specs.Writing.{Written, refused, inRoom, roomed, writeFrom}
+use Rattle.packs.proofs.Near.{Near}
+use Rattle.jobs.specs.Job.{Job}
+use Rattle.jobs.specs.Words.{jobOf}
+use Rattle.jobs.specs.Allowed.{Allowed}
+use Rattle.jobs.specs.Packs.{asSix, handedOut, readJob, readJobInto, writeJob, writeProposal}
+use Rattle.jobs.proofs.Readings.{read-jobs-allowed}
+use Rattle.jobs.proofs.Near.{job-read-near, job-written-near, proposal-written-near}
+use Rattle.house.specs.declared.factor.Ending.{Ending}
+use Rattle.house.specs.declared.factor.Ending.the-variants.{Whole, Thin}
+use Rattle.house.specs.Proposal.{wordsOf, writtenOf, onEnding, solvedOf, proposedOf, onRead, proposeOf}
+use Rattle.house.proofs.Thin.{thin-cell}
+use Rattle.bench.specs.Calls.{outcomeOf}
+use Rattle.bench.proofs.Small.{Small}
+
+-- ---- room
+
+in-room-small : (room : ℕ) (bytes : List ℕ) (o : Outcome) → Small (outcomeOf o) → Small (outcomeOf (inRoom room bytes o .outcome))
+in-room-small room bytes (Done n) s = go (ltb room n)
+  where
+    go : (t : Bool) → Small (outcomeOf ((if t then refused 13 n else record { bytes = bytes; outcome = Done n }) .outcome))
+    go true = record { number = omega arith; place = s .place }
+    go false = s
+in-room-small room bytes (Refused number place) s = s
+
+handed-small : (room : ℕ) (words : List ℤ) (o : Outcome) → Small (outcomeOf o) → Small (outcomeOf (handedOut room words o .outcome))
+handed-small room words (Done k) s = go (ltb room k)
+  where
+    go : (t : Bool) → Small (outcomeOf (if_then_else_ {A = Ran} t (record { words = []; outcome = Refused 13 k }) (record { words = words; outcome = Done k }) .outcome))
+    go true = record { number = omega arith; place = s .place }
+    go false = s
+handed-small room words (Refused number place) s = s
+
+-- ---- packs
+
+near-small : (o : Outcome) → Near 20870 o → Small (outcomeOf o)
+near-small (Done n) h = record { number = omega arith; place = h }
+near-small (Refused number place) h = record { number = omega (arith, h .1); place = h .2 }
+
+six-small : (o : Outcome) → Near 2800 o → Small (outcomeOf (asSix o))
+six-small (Done n) h = record { number = omega arith; place = omega arith }
+six-small (Refused number place) h = record { number = omega arith; place = omega (arith, h .2) }
+
+pub read-small : (room : ℕ) (job : List ℕ) → Small (outcomeOf (readJobInto room job .outcome))
+read-small room job = handed-small room (readJob job .words) (readJob job .outcome) (near-small (readJob job .outcome) (job-read-near job))
+
+pub write-small : (room : ℕ) (words : List ℤ) → Small (outcomeOf (roomed room (writeJob words) .outcome))
+write-small room words =
+    in-room-small room (writeJob words .bytes) (writeJob words .outcome) (near-small (writeJob words .outcome) (job-written-near words))
+
+-- ---- the house proposal
+
+written-small : (room : ℕ) (j : Job) → Allowed j → (v : List Float) → Small (outcomeOf (writtenOf room j v .outcome))
+written-small room j A v =
+    let w = writeProposal (j .cells) (j .links) (wordsOf j v) in
+    in-room-small room (w .bytes) (w .outcome)
+    (six-small (writeFrom (wordsOf j v) (valuesFrom (j .cells) (j .links)) 0 .outcome)
+    (proposal-written-near (j .cells) (j .links) (A .cells-few) (A .links-few) (wordsOf j v)))
+
+proposed-small : (room : ℕ) (j : Job) → Allowed j → Small (outcomeOf (proposedOf room j .outcome))
+unfolding proposedOf
+proposed-small room j A = go (solvedOf j .ending) refl
+  where
+    go : (e : Ending) → solvedOf j .ending ≡ e → Small (outcomeOf (onEnding room j (solvedOf j .values) e .outcome))
+    go Whole q = written-small room j A (solvedOf j .values)
+    go (Thin cell pivot) q = record { number = omega arith; place = omega (arith, thin-cell j cell pivot q, A .cells-few) }
+
+pub propose-small : (room : ℕ) (job : List ℕ) → Small (outcomeOf (proposeOf room job .outcome))
+propose-small room job = go (readJob job .outcome) refl (job-read-near job)
+  where
+    go : (o : Outcome) → readJob job .outcome ≡ o → Near 20870 o → Small (outcomeOf (onRead room (readJob job .words) o .outcome))
+    go (Done k) e h = proposed-small room (jobOf (readJob job .words)) (read-jobs-allowed job k e)
+    go (Refused number place) e h = record { number = omega (arith, h .1); place = h .2 }

@@ -1,0 +1,50 @@
+-- The words are the job reader's; the answer is given where there is room for it.
+use mathlib.Core.Path.{ap, _∙_}
+use lib.ListN.{length}
+use lib.Seq.{sets}
+use Rattle.jobs.specs.Packs.{readJobInto}
+use Rattle.bench.specs.Calls.{outcomeOf}
+use Rattle.bench.proofs.Endings.{without-room, with-room}
+use Rattle.bench.proofs.Small.{code-fits}
+use Rattle.bench.proofs.Outcomes.{read-small}
+use borrow.Author.Needs.{needs}
+use Rattle.bench.proofs.words.bench_read.Statement.{statement}
+use Rattle.bench.proofs.words.bench_read.Tie as tie
+
+returns : tie.Need-returns
+returns c =
+    let a = c .before .before .before .args in
+    let made = readJobInto (length (a .words .now)) (a .job .now) in
+    without-room (outcomeOf (made .outcome)) (a .answer .now) (a .words .now) (sets (a .words .now) 0 (made .words)) (c .if1 .taken)
+
+read-job-requires : tie.Need-read-job-requires
+read-job-requires c κs = search needs
+
+of-outcome-requires : tie.Need-of-outcome-requires
+of-outcome-requires c κs = search needs
+
+give-requires : tie.Need-give-requires
+give-requires c κs =
+    let told = c .before .before .before in
+    let test = told .before .before in
+    let a = test .before .before .before .args in
+    (test .if1 .left, code-fits _ (c .of-outcome .ensures ∙ ap outcomeOf (told .read-job .ensures .0)) (read-small (length (a .words .now)) (a .job .now)))
+
+same-length : tie.Need-same-length
+same-length c = search needs
+
+same-length-2 : tie.Need-same-length-2
+same-length-2 c = search needs
+
+returns-2 : tie.Need-returns-2
+returns-2 c =
+    let given = c .before .before in
+    let told = c .before .before .before .before .before .before in
+    let test = told .before .before in
+    let a = test .before .before .before .args in
+    let made = readJobInto (length (a .words .now)) (a .job .now) in
+    with-room (outcomeOf (made .outcome)) (a .answer .now) (a .words .now) (sets (a .words .now) 0 (made .words)) (test .if1 .left) (given .before .of-outcome .result)
+    (given .before .of-outcome .ensures ∙ ap outcomeOf (told .read-job .ensures .0)) (given .give .ensures .0) (given .give .ensures .1) (told .read-job .ensures .1)
+
+pub bench-read-spec : {M : Type 1} → statement M
+bench-read-spec = tie.close (tie.spec returns read-job-requires of-outcome-requires give-requires same-length same-length-2 returns-2)

@@ -1,0 +1,101 @@
+#!/usr/bin/env python3
+"""Compares what the check printed for the solver's jobs (the last part of crates/cases/stdout) with the solver's optima, in exact numbers.
+
+Each job's line has to be document 01's verdict, computed here from the stored packs. The least loss of all tables that meet the job lies in the
+interval of tests/solver/optima; if a job is accepted with F and G, it has to lie between F - G and F too. A refused job has to be refused with 9.
+The last line is 'N passed, M failed': one count a job, and one for each wrong line that has to be noticed.
+"""
+import sys
+from fractions import Fraction
+from math import ceil
+from pathlib import Path
+from statistics import median
+
+sys.path.insert(0, str(Path(__file__).resolve().parents[1]))
+import packs
+from solver.optima import optima
+from verdict import gap, loss, verdict
+
+NEAR = Fraction(1, 10 ** 7)
+
+class Checked:
+    """A job of the input with its proposal, the line that was printed, and the solver's optimum."""
+
+    def __init__(self, case, line, optimum):
+        job, proposal = packs.packs_of(case)
+        self.job = packs.job_of(job)
+        self.values, self.multipliers = packs.proposal_of(proposal, self.job)
+        self.told, self.optimum = [int(x) for x in line.split()], optimum
+
+    def accepted(self):
+        return self.told[0] == 0
+
+def between(told_loss, told_gap, optimum):
+    """Whether the least loss can lie between F - G and F."""
+    return told_loss - told_gap <= optimum.upper and optimum.lower <= told_loss
+
+def near(optimum):
+    """Whether the solver's own figure, which is a rounded one, lies by the interval."""
+    room = NEAR * (optimum.upper + 1)
+    return optimum.lower <= optimum.upper and optimum.lower - room <= optimum.figure <= optimum.upper + room
+
+def faults(checked):
+    job, optimum = checked.job, checked.optimum
+    own_loss, own_gap = loss(job, checked.values), gap(job, checked.values, checked.multipliers)
+    out = []
+    if optimum.named != [job.society, job.job, len(job.cells), job.order, len(job.links)]:
+        out.append('its optimum is of another job')
+    if checked.told != verdict(job, checked.values, checked.multipliers):
+        out.append('its line is not the verdict of document 01')
+    if checked.told[0] not in (0, 9):
+        out.append('it is refused, and not for its gap')
+    if checked.accepted() and not between(checked.told[2], checked.told[3], optimum):
+        out.append('the least loss does not lie between F - G and F')
+    if not between(own_loss, own_gap, optimum):
+        out.append('nor does it by the loss and gap computed here')
+    if not near(optimum):
+        out.append("the solver's figure is far from its interval")
+    return out
+
+def unnoticed(jobs):
+    """What is wrong, and would pass: lines of the first accepted job with a gap, and losses and gaps that the optimum alone has to tell."""
+    accepted = [x for x in jobs if x.accepted()]
+    first = next(x for x in accepted if x.told[3] > 0)
+    right, out = first.told, []
+    for told in ([0, 0, right[2] + 1, right[3]], [0, 0, right[2], right[3] - 1], [0, 1, *right[2:]], [9, 0, 0, 0]):
+        first.told = told
+        out.append(None if faults(first) else f'the line {told} in place of {right}')
+    first.told = right
+    below = [x for x in accepted if between(ceil(x.optimum.lower) - 1, x.told[3], x.optimum)]
+    out.append(f'a loss below the least, in {len(below)} jobs' if below else None)
+    no_gap = [x for x in accepted if between(x.told[2], 0, x.optimum)]
+    print(f'a gap of 0 would be noticed by the optimum alone in {len(accepted) - len(no_gap)} of {len(accepted)} jobs')
+    out.append('a gap of 0, in most jobs' if 2 * len(no_gap) > len(accepted) else None)
+    return out
+
+def report(jobs):
+    accepted = [x for x in jobs if x.accepted()]
+    shares = [x.told[3] / x.told[2] for x in accepted if x.told[2] > 0]
+    print(f'{len(jobs)} jobs, {len(accepted)} accepted, {len(jobs) - len(accepted)} refused; G/F: median {median(shares):.2g}, largest {max(shares):.2g}')
+
+def main():
+    stored, cases, lines = optima(), packs.cut(packs.STDIN.read_bytes()), packs.STDOUT.read_text().splitlines()
+    if not stored or len(cases) != len(lines):
+        sys.exit('the stored cases, lines and optima do not belong together')
+    jobs = [Checked(*x) for x in zip(cases[-len(stored):], lines[-len(stored):], stored)]
+    passed = failed = 0
+    for checked in jobs:
+        wrong = faults(checked)
+        for fault in wrong:
+            print(f'job {checked.job.job} of society {checked.job.society}: {fault}')
+        passed, failed = (passed, failed + 1) if wrong else (passed + 1, failed)
+    for wrong in unnoticed(jobs):
+        if wrong:
+            print(f'not noticed: {wrong}')
+        passed, failed = (passed, failed + 1) if wrong else (passed + 1, failed)
+    report(jobs)
+    print(f'{passed} passed, {failed} failed')
+    sys.exit(1 if failed else 0)
+
+if __name__ == '__main__':
+    main()

@@ -68,13 +68,13 @@ class Numbers:
 def job_of(pack):
     """The job of a pack that is known to be a job's."""
     read = Numbers(pack)
-    society, number_, n, order, k, tolerance = read.several(6)
+    society, named, n, order, k, tolerance = read.several(6)
     cells = [tuple(read.several(4)) for _ in range(n)]
     links = []
     for _ in range(read.next()):
         terms = [(read.next(), read.signed()) for _ in range(read.next())]
         links.append((terms, read.signed()))
-    job = Job(order, k, cells, links, society, number_, tolerance)
+    job = Job(order, k, cells, links, society, named, tolerance)
     if job.pack() != pack:
         raise ValueError('no job pack')
     return job

@@ -3,11 +3,11 @@
 Its upper end is the loss, in exact fractions, of a table that meets the job exactly: the least loss is not above that. Such a table is the solver's,
 rounded to multiples of 1/d and mended.
 
-Its lower end is the least value of the Lagrangian: the loss, and on top each link's and each box side's excess times a multiplier that is 0 or more. At a table
-that meets the job no excess is above 0, so the Lagrangian is not above the loss there, and its least value over all tables whatever is not above the
-least loss. It is the value at the one table v with (W + kK'K)v = Wu - g/2, g the multipliers' part of the gradient: the matrix is positive
-definite, for a table without differences is a polynomial of degree below z, and z positive weights leave only 0 of those. The system is solved in
-exact fractions. Any multipliers give a certain end; the solver's give a near one.
+Its lower end is the least value of the Lagrangian, or 0 if that is more: the loss, and on top the excess of each link, floor and ceiling times a
+multiplier that is 0 or more. At a table that meets the job no excess is above 0, so the Lagrangian is not above the loss there, and its least value
+over all tables whatever is not above the least loss. It is the value at the one table v with (W + kK'K)v = Wu - g/2, g the multipliers' part of the
+gradient: the matrix is positive definite, for a table whose differences are 0 is a polynomial of degree below z, and z positive weights leave only
+the table of zeros of those. The system is solved in exact fractions. Any multipliers give a certain end; the solver's give a near one.
 """
 from fractions import Fraction
 from verdict import ROWS, link_sum, loss
@@ -27,7 +27,7 @@ def moves(job, x, d, terms, over):
             yield to - x[c], x[:c] + [to] + x[c + 1:]
 
 def mended(job, x, d, way, turns):
-    """Whole numbers near x that meet the job in parts of 1/d, or None: the worst link is mended first, where there is a choice by moves up or down."""
+    """Whole numbers near x that meet the job in parts of 1/d, or None: the worst link is mended first, and of equal moves the one up or down."""
     for _ in range(turns):
         over = excess(job, x, d)
         worst = max(over, default=0)
@@ -101,4 +101,4 @@ def lower_end(job, links, floors, ceilings):
     links, floors, ceilings = (whole_parts(y) for y in (links, floors, ceilings))
     g, rest = gathered(job, links, floors, ceilings)
     v = solved(banded(job), [w * u - x / 2 for (u, w, _, _), x in zip(job.cells, g)])
-    return loss(job, v) + sum(x * y for x, y in zip(g, v)) + rest
+    return max(Fraction(0), loss(job, v) + sum(x * y for x, y in zip(g, v)) + rest)

@@ -6,17 +6,14 @@ interval of tests/solver/optima; if a job is accepted with F and G, it has to li
 The last line is 'N passed, M failed': one count a job, and one for each wrong line that has to be noticed.
 """
 import sys
-from fractions import Fraction
 from math import ceil
 from pathlib import Path
 from statistics import median
 
 sys.path.insert(0, str(Path(__file__).resolve().parents[1]))
 import packs
-from solver.optima import optima
+from solver.optima import near, optima
 from verdict import gap, loss, verdict
-
-NEAR = Fraction(1, 10 ** 7)
 
 class Checked:
     """A job of the input with its proposal, the line that was printed, and the solver's optimum."""
@@ -34,11 +31,6 @@ def between(told_loss, told_gap, optimum):
     """Whether the least loss can lie between F - G and F."""
     return told_loss - told_gap <= optimum.upper and optimum.lower <= told_loss
 
-def near(optimum):
-    """Whether the solver's own figure, which is a rounded one, lies by the interval."""
-    room = NEAR * (optimum.upper + 1)
-    return optimum.lower <= optimum.upper and optimum.lower - room <= optimum.figure <= optimum.upper + room
-
 def faults(checked):
     job, optimum = checked.job, checked.optimum
     own_loss, own_gap = loss(job, checked.values), gap(job, checked.values, checked.multipliers)
@@ -53,7 +45,7 @@ def faults(checked):
         out.append('the least loss does not lie between F - G and F')
     if not between(own_loss, own_gap, optimum):
         out.append('nor does it by the loss and gap computed here')
-    if not near(optimum):
+    if not near(optimum.figure, optimum.lower, optimum.upper):
         out.append("the solver's figure is far from its interval")
     return out
 
@@ -76,7 +68,8 @@ def unnoticed(jobs):
 def report(jobs):
     accepted = [x for x in jobs if x.accepted()]
     shares = [x.told[3] / x.told[2] for x in accepted if x.told[2] > 0]
-    print(f'{len(jobs)} jobs, {len(accepted)} accepted, {len(jobs) - len(accepted)} refused; G/F: median {median(shares):.2g}, largest {max(shares):.2g}')
+    print(f'{len(jobs)} jobs, {len(accepted)} accepted, {len(jobs) - len(accepted)} refused')
+    print(f'G relative to F: median {median(shares):.2g}, largest {max(shares):.2g}')
 
 def main():
     stored, cases, lines = optima(), packs.cut(packs.STDIN.read_bytes()), packs.STDOUT.read_text().splitlines()

@@ -66,7 +66,7 @@ def again(dice, link):
     return given, b + dice.randint(0, 3)
 
 def links(dice, table, most, count):
-    """So many links, or fewer; about one in ten says no more than an earlier one."""
+    """So many links; about one in ten says no more than an earlier one."""
     out = chain(table)[:count] if dice.random() < 0.5 else []
     kinds = dice.sample(LINKS, 3)
     while len(out) < count:

@@ -2,20 +2,21 @@
 """Makes the solver's jobs: crates/cases/stdin's last part with its lines, and tests/solver/optima. Needs Debian's python3-cvxopt.
 
 A job from the dice is solved as a quadratic program. The values are rounded to whole rates that meet the job, the multipliers to whole numbers, and
-those are its proposal. A job is drawn again where the solver fails, the interval of its least loss is wide, no such rounding is found, or the gap says
-nothing. What is stored is the record: another version of the solver may find other figures.
+those are its proposal. A job is drawn again where the solver fails, the interval of its least loss is wide, no such rounding is found, or the gap
+says nothing. What is stored is the record: another version of the solver may find other figures.
 """
 import random, sys
+from collections import Counter
 from math import ceil, floor
 from pathlib import Path
 
 sys.path.insert(0, str(Path(__file__).resolve().parents[1]))
 from cvxopt import matrix, solvers
 from cases.expect import computed, write
-from solver.bounds import banded, lower_end, meeting, upper_end
+from solver.bounds import banded, gathered, lower_end, meeting, upper_end
 from solver.jobs import job as drawn
-from solver.optima import OPTIMA
-from verdict import gap, loss, residuals, verdict
+from solver.optima import OPTIMA, near
+from verdict import gap, loss
 
 SEED, MOST = 1, 10 ** 15
 WIDE = 1e-8
@@ -62,33 +63,45 @@ def optimum(job):
         floors[i], ceilings[i] = (found['z'][place + side * len(free)] * scale * weight for side in (0, 1))
     for place, j in enumerate(used):
         links[j] = found['z'][2 * len(free) + place] * scale * weight
-    for i, r in enumerate(residuals(job, values, links)):
+    pull, _ = gathered(job, links, [0.0] * n, [0.0] * n)
+    for i, row in enumerate(dense(job)):
         if i not in free:
-            floors[i], ceilings[i] = max(0.0, r), max(0.0, -r)
+            slope = 2 * (sum(x * v for x, v in zip(row, values)) - job.cells[i][1] * job.cells[i][0]) + pull[i]
+            floors[i], ceilings[i] = max(0.0, slope), max(0.0, -slope)
     return values, links, floors, ceilings
 
 # ---- a job with its proposal
 
+class Again(Exception):
+    """Why a job is drawn again."""
+
+def proposal(job, values, links):
+    """Whole values and multipliers near the solver's."""
+    whole, multipliers = meeting(job, values, 1), [max(0, round(y)) for y in links]
+    if whole is None:
+        raise Again('no whole table found')
+    g = gap(job, whole, multipliers)
+    if max(multipliers, default=0) > 10 ** 9 or g > MOST:
+        raise Again('numbers not allowed')
+    if g > loss(job, whole):
+        raise Again('a gap above the loss')
+    return whole, multipliers
+
 def solved(job):
-    """Values, multipliers, and the line's three figures; or why the job is drawn again."""
+    """Values, multipliers, and the solver's figure with the two that the least loss lies between."""
     if all(lo == hi for _, _, lo, hi in job.cells):
-        return 'no room in any box'
+        raise Again('no room in any box')
     try:
         values, links, floors, ceilings = optimum(job)
     except (ArithmeticError, ValueError):
-        return 'the solver failed'
+        raise Again('the solver failed')
     upper, lower = upper_end(job, values), lower_end(job, links, floors, ceilings)
     if upper is None or upper - lower > WIDE * upper + 10 ** -DIGITS:
-        return 'a wide interval'
-    whole, multipliers = meeting(job, values, 1), [max(0, round(y)) for y in links]
-    if whole is None:
-        return 'no whole table found'
-    g = gap(job, whole, multipliers)
-    if max(multipliers, default=0) > 10 ** 9 or g > MOST:
-        return 'numbers not allowed'
-    if g > loss(job, whole):
-        return 'a gap above the loss'
-    return whole, multipliers, (loss(job, values), lower, upper)
+        raise Again('a wide interval')
+    figure = loss(job, values)
+    if not near(figure, lower, upper):
+        raise Again('an optimum beside its interval')
+    return *proposal(job, values, links), (figure, lower, upper)
 
 def tolerance(job, values, multipliers, turn):
     """One job in ten has one less than its gap, two have the gap itself, the others somewhat more."""
@@ -109,28 +122,32 @@ def sizes(dice):
                 n = dice.randint(z + 1, most)
                 yield n, order, dice.randint(0, min(160, n + n // 2))
 
-def fixed(x, side):
+def decimals(x, side):
     """A figure in decimals, rounded down or up."""
     whole = side(x * 10 ** DIGITS)
     return f'{whole // 10 ** DIGITS}.{whole % 10 ** DIGITS:0{DIGITS}}'
 
+def kept(dice, size, again):
+    """The first drawn job of a size that is not drawn again, and what is found of it; counts the reasons."""
+    while True:
+        job = drawn(dice, *size)
+        try:
+            return job, *solved(job)
+        except Again as reason:
+            again[str(reason)] += 1
+
 def main():
-    dice, cases, lines, again = random.Random(SEED), [], [], {}
-    for turn, (n, order, count) in enumerate(sizes(random.Random(SEED))):
-        while True:
-            job = drawn(dice, n, order, count)
-            found = solved(job)
-            if not isinstance(found, str):
-                break
-            again[found] = again.get(found, 0) + 1
-        values, multipliers, (figure, lower, upper) = found
+    dice, cases, again = random.Random(SEED), [], Counter()
+    lines = ['# society, job, cells, order field, links, the least loss as the solver has it, and two figures that it lies between\n']
+    for turn, size in enumerate(sizes(random.Random(SEED))):
+        job, values, multipliers, (figure, lower, upper) = kept(dice, size, again)
         job.society, job.job, job.tolerance = turn % 8, turn, tolerance(job, values, multipliers, turn)
         cases.append(computed(job, values, multipliers))
-        named = f'{job.society} {job.job} {n} {order} {len(job.links)}'
-        lines.append(f'{named} {figure:.6f} {fixed(lower, floor)} {fixed(upper, ceil)}\n')
-    OPTIMA.write_text('# society, job, cells, order field, links, the least loss as the solver has it, and two figures that it lies between\n' + ''.join(lines))
+        named = f'{job.society} {job.job} {len(job.cells)} {job.order} {len(job.links)}'
+        lines.append(f'{named} {figure:.{DIGITS}f} {decimals(lower, floor)} {decimals(upper, ceil)}\n')
+    OPTIMA.write_text(''.join(lines))
     write(cases)
-    print(f'{len(cases)} jobs; drawn again: {again}')
+    print(f'{len(cases)} jobs; drawn again: {dict(again)}')
 
 if __name__ == '__main__':
     main()

@@ -3,6 +3,12 @@ from fractions import Fraction
 from pathlib import Path
 
 OPTIMA = Path(__file__).resolve().with_suffix('')
+NEAR = Fraction(1, 10 ** 7)
+
+def near(figure, lower, upper):
+    """Whether the solver's own figure, which is a rounded one, lies by the interval."""
+    room = NEAR * (upper + 1)
+    return lower <= upper and lower - room <= figure <= upper + room
 
 class Optimum:
     """What a line says: society, job, cells, order field, links, the solver's own figure, and an interval that holds the least loss."""

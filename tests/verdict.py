@@ -33,9 +33,14 @@ def cell_term(r, v, w, lo, hi):
         return box
     return min(box, -(-r * r // (4 * w)))
 
+def cell_terms(job, v, r):
+    return [cell_term(x, rate, w, lo, hi) for x, rate, (_, w, lo, hi) in zip(r, v, job.cells)]
+
+def link_terms(job, v, multipliers):
+    return [y * (b - link_sum(terms, v)) for (terms, b), y in zip(job.links, multipliers)]
+
 def gap(job, v, multipliers):
-    terms = sum(cell_term(r, x, w, lo, hi) for r, x, (_, w, lo, hi) in zip(residuals(job, v, multipliers), v, job.cells))
-    return terms + sum(y * (b - link_sum(t, v)) for (t, b), y in zip(job.links, multipliers))
+    return sum(cell_terms(job, v, residuals(job, v, multipliers))) + sum(link_terms(job, v, multipliers))
 
 def verdict(job, v, multipliers):
     """Number, place, F and G for two packs that read well."""

@@ -3,7 +3,7 @@
 
 Each job's line has to be document 01's verdict, computed here from the stored packs. The least loss of all tables that meet the job lies in the
 interval of tests/solver/optima; if a job is accepted with F and G, it has to lie between F - G and F too. A refused job has to be refused with 9.
-The last line is 'N passed, M failed': one count a job, and one for each wrong line that has to be noticed.
+The last line is 'N passed, M failed': one count a job, and one for each wrong line, loss or gap that has to be noticed.
 """
 import sys
 from math import ceil
@@ -13,6 +13,7 @@ from statistics import median
 sys.path.insert(0, str(Path(__file__).resolve().parents[1]))
 import packs
 from solver.optima import near, optima
+from solver.slips import SLIPS
 from verdict import gap, loss, verdict
 
 class Checked:
@@ -44,25 +45,29 @@ def faults(checked):
     if checked.accepted() and not between(checked.told[2], checked.told[3], optimum):
         out.append('the least loss does not lie between F - G and F')
     if not between(own_loss, own_gap, optimum):
-        out.append('nor does it by the loss and gap computed here')
+        out.append('the least loss does not lie between F - G and F as computed here')
     if not near(optimum.figure, optimum.lower, optimum.upper):
         out.append("the solver's figure is far from its interval")
     return out
 
-def unnoticed(jobs):
-    """What is wrong, and would pass: lines of the first accepted job with a gap, and losses and gaps that the optimum alone has to tell."""
-    accepted = [x for x in jobs if x.accepted()]
-    first = next(x for x in accepted if x.told[3] > 0)
-    right, out = first.told, []
+def wrong_lines(jobs):
+    """Wrong lines for the first accepted job with a gap: None for each that is noticed, else what would pass."""
+    checked = next(x for x in jobs if x.accepted() and x.told[3] > 0)
+    right, out = checked.told, []
     for told in ([0, 0, right[2] + 1, right[3]], [0, 0, right[2], right[3] - 1], [0, 1, *right[2:]], [9, 0, 0, 0]):
-        first.told = told
-        out.append(None if faults(first) else f'the line {told} in place of {right}')
-    first.told = right
-    below = [x for x in accepted if between(ceil(x.optimum.lower) - 1, x.told[3], x.optimum)]
-    out.append(f'a loss below the least, in {len(below)} jobs' if below else None)
-    no_gap = [x for x in accepted if between(x.told[2], 0, x.optimum)]
-    print(f'a gap of 0 would be noticed by the optimum alone in {len(accepted) - len(no_gap)} of {len(accepted)} jobs')
-    out.append('a gap of 0, in most jobs' if 2 * len(no_gap) > len(accepted) else None)
+        checked.told = told
+        out.append(None if faults(checked) else f'the line {told} in place of {right}')
+    checked.told = right
+    return out
+
+def wrong_figures(jobs):
+    """Wrong losses and gaps, which the optima alone have to tell: None for each that is noticed, else what would pass."""
+    below = [x for x in jobs if between(ceil(x.optimum.lower) - 1, 0, x.optimum)]
+    out = [f'a loss below the least, in {len(below)} jobs' if below else None]
+    for slip in SLIPS:
+        told = [not between(loss(x.job, x.values), slip(x.job, x.values, x.multipliers), x.optimum) for x in jobs]
+        print(f'{slip.__doc__[:-1]}: told by the optimum in {sum(told)} of {len(jobs)} jobs')
+        out.append(None if any(told) else slip.__doc__)
     return out
 
 def report(jobs):
@@ -82,7 +87,7 @@ def main():
         for fault in wrong:
             print(f'job {checked.job.job} of society {checked.job.society}: {fault}')
         passed, failed = (passed, failed + 1) if wrong else (passed + 1, failed)
-    for wrong in unnoticed(jobs):
+    for wrong in wrong_lines(jobs) + wrong_figures(jobs):
         if wrong:
             print(f'not noticed: {wrong}')
         passed, failed = (passed, failed + 1) if wrong else (passed + 1, failed)

@@ -1,48 +1,14 @@
-#!/usr/bin/env python3
-"""What the program house_cases has to print, computed apart from the crates: the jobs' packs and the house proposal, from document 01 alone.
-
-  tests/house/expect.py          writes crates/house_cases/stdin and crates/house_cases/stdout
-  tests/house/expect.py --check  compares them: the last line counts the stored files that are, and are not, what it computes
+"""The house proposal's outcomes, computed apart from the crates, from document 01 ("The house proposal") alone.
 
 A Python float is an IEEE double, and each operation on it is rounded once: no multiply-add is fused. The matrix is made from all difference
-rows as whole numbers, without a band.
-
-The input is a list of cases: the pack's length and the output's room, two bytes each, low byte first, then the pack. A case prints one line: the
-outcome's number and place and, where it is done, the bytes of the proposal pack, in decimal.
+rows as whole numbers, without a band. `tests/cases/expect.py` runs and stores the cases made here.
 """
-import math, sys
+import math
 from fractions import Fraction
-from pathlib import Path
+from packs import Job, house_case, number
+from verdict import ROWS
 
-ROWS = {1: [-1, 1], 2: [1, -2, 1], 3: [-1, 3, -3, 1], 4: [1, -4, 6, -4, 1]}
 ROOM = 1024
-
-# ---- packs
-
-def number(x):
-    out = []
-    while x >= 128:
-        out.append(x % 128 + 128)
-        x //= 128
-    return bytes(out + [x])
-
-def signed(x):
-    return number(2 * x if x >= 0 else -2 * x - 1)
-
-class Job:
-    def __init__(self, order, k, cells, links=(), society=3, job=7, tolerance=0):
-        self.society, self.job, self.order, self.k, self.tolerance = society, job, order, k, tolerance
-        self.cells, self.links = cells, list(links)
-
-    def pack(self):
-        head = [self.society, self.job, len(self.cells), self.order, self.k, self.tolerance]
-        out = b''.join(number(x) for x in head)
-        for cell in self.cells:
-            out += b''.join(number(x) for x in cell)
-        out += number(len(self.links))
-        for terms, b in self.links:
-            out += number(len(terms)) + b''.join(number(c) + signed(s) for c, s in terms) + signed(b)
-        return out
 
 # ---- the house proposal
 
@@ -58,7 +24,7 @@ def matrix(n, z, k, w):
 
 def values(job):
     """The values before rounding, or the cell that is thin."""
-    n, z = len(job.cells), job.order or 2
+    n, z = len(job.cells), job.order_used()
     w = [c[1] for c in job.cells]
     a = matrix(n, z, job.k, w)
     low = [[0.0] * n for _ in range(n)]
@@ -135,7 +101,8 @@ def on_a_half(dice, order):
         if v is not None and any(0 < x < 100 and x - math.floor(x) == 0.5 for x in v):
             return job
 
-def cases():
+def proposed():
+    """Jobs of all orders, each with its room."""
     thin = Job(2, 1000, [(0, 1, 0, 100)] * 2 + [(0, 0, 0, 100)] * 118)
     made = [(thin, ROOM)]
     dice = Dice(1)
@@ -152,30 +119,23 @@ def cases():
     short = Job(3, 10, table(dice, 20, 900000))
     size = outcome(short, ROOM)[1]
     made += [(short, size - 1), (short, size), (thin, 0)]
-    done = [(job.pack(), room, outcome(job, room)) for job, room in made]
-    # the job's own refusals, each with the number and place that document 01 gives
+    return made
+
+def refused():
+    """Job packs that cannot be read, each with the number and place that document 01 gives."""
     cell, three = (5, 1, 0, 9), [(5, 1, 0, 9)] * 3
-    done.append((b'', ROOM, [1, 0]))
-    done.append((Job(2, 1, three).pack() + b'\0', ROOM, [1, len(Job(2, 1, three).pack())]))
-    done.append((Job(0, 1, [cell] * 2).pack(), ROOM, [2, 3]))
-    done.append((Job(2, 1, three, society=8).pack(), ROOM, [2, 0]))
-    done.append((Job(2, 1, [cell, (5, 1, 9, 8), cell]).pack(), ROOM, [3, 1]))
-    done.append((Job(2, 1, [cell, (5, 0, 0, 9), (5, 0, 0, 9)]).pack(), ROOM, [4, 0]))
-    done.append((Job(2, 1, three, [([(0, 1), (1, -1)], 0), ([(1, 1), (1, 1)], 0)]).pack(), ROOM, [5, 1]))
-    return done
+    spare = Job(2, 1, three).pack()
+    return [
+        (b'', [1, 0]),
+        (spare + b'\0', [1, len(spare)]),
+        (Job(0, 1, [cell] * 2).pack(), [2, 3]),
+        (Job(2, 1, three, society=8).pack(), [2, 0]),
+        (Job(2, 1, [cell, (5, 1, 9, 8), cell]).pack(), [3, 1]),
+        (Job(2, 1, [cell, (5, 0, 0, 9), (5, 0, 0, 9)]).pack(), [4, 0]),
+        (Job(2, 1, three, [([(0, 1), (1, -1)], 0), ([(1, 1), (1, 1)], 0)]).pack(), [5, 1]),
+    ]
 
-def main():
-    made = cases()
-    given = b''.join(len(p).to_bytes(2, 'little') + r.to_bytes(2, 'little') + p for p, r, _ in made)
-    told = ''.join(' '.join(str(x) for x in o) + '\n' for _, _, o in made).encode()
-    crate = Path(__file__).resolve().parents[2] / 'crates' / 'house_cases'
-    if sys.argv[1:] == ['--check']:
-        wrong = [name for name, text in (('stdin', given), ('stdout', told)) if (crate / name).read_bytes() != text]
-        for name in wrong:
-            print(f'{crate / name} is not what is computed')
-        print(f'{2 - len(wrong)} passed, {len(wrong)} failed')
-        sys.exit(1 if wrong else 0)
-    (crate / 'stdin').write_bytes(given)
-    (crate / 'stdout').write_bytes(told)
-
-main()
+def cases():
+    """The cases with the numbers of their lines: number, place and, where it is done, the bytes of the proposal pack."""
+    made = [(house_case(job.pack(), room), outcome(job, room)) for job, room in proposed()]
+    return made + [(house_case(pack, ROOM), told) for pack, told in refused()]

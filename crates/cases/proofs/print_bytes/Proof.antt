@@ -1,8 +1,8 @@
 -- Each turn prints the byte at i, where there is one.
 use Prim.Native.Nat.{_-_, _≤_}
 use borrow.Author.Needs.{needs}
-use Rattle.house_cases.proofs.print_bytes.Statement.{statement}
-use Rattle.house_cases.proofs.print_bytes.Tie as tie
+use Rattle.cases.proofs.print_bytes.Statement.{statement}
+use Rattle.cases.proofs.print_bytes.Tie as tie
 
 abbrev Inv-loop : tie.InvT-loop
 Inv-loop bytes n i₀ i = (i ≤ n)

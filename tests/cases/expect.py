@@ -1,0 +1,132 @@
+#!/usr/bin/env python3
+"""What the program of crates/cases is run on and has to print, computed apart from the crates.
+
+  tests/cases/expect.py          writes crates/cases/stdin and crates/cases/stdout
+  tests/cases/expect.py --check  compares them: the last line counts the stored cases that are, and are not, what is made here
+
+First come the house proposals of `tests/house/expect.py`, then document 01's tables worked by hand, refusals and limits of the check, and last the
+solver's jobs, one for each line of `tests/solver/optima`. Those are kept as they are stored: only their lines are computed.
+"""
+import sys
+from pathlib import Path
+
+sys.path.insert(0, str(Path(__file__).resolve().parents[1]))
+import packs
+from house import expect as house
+from packs import Job, check_case, house_case, number, proposal_pack
+from solver.optima import optima
+from verdict import verdict
+
+MOST = 10 ** 15
+
+# ---- document 01, "Tables worked by hand": the figures are the document's
+
+def three(u, weights=(1, 1, 1), links=(), tolerance=1000):
+    return Job(2, 1, [(x, w, 0, 100) for x, w in zip(u, weights)], links, tolerance=tolerance)
+
+LINK = [([(0, -1), (1, 1)], 0)]
+
+def tables():
+    """The tables that both packs can be written of: job, values, multipliers, and number, place, F and G."""
+    return [
+        (three([0, 7, 0]), [2, 3, 2], [], [0, 0, 28, 0]),
+        (three([0, 7, 0]), [2, 3, 3], [], [0, 0, 30, 9]),
+        (three([0, 7, 0], tolerance=784), [0, 7, 0], [], [0, 0, 196, 784]),
+        (three([0, 7, 0], tolerance=783), [0, 7, 0], [], [9, 0, 0, 0]),
+        (three([0, 5, 0], links=LINK), [2, 2, 1], [2], [0, 0, 15, 0]),
+        (three([0, 5, 0], links=LINK), [2, 2, 1], [0], [0, 0, 15, 2]),
+        (three([0, 5, 0], links=LINK), [3, 2, 1], [2], [0, 0, 19, 11]),
+        (three([0, 5, 0], links=LINK), [2, 3, 1], [2], [8, 0, 0, 0]),
+        (three([0, 50, 0], weights=(1, 0, 1)), [0, 1, 0], [], [0, 0, 4, 16]),
+        (three([0, 1, 0]), [0, 0, 0], [], [0, 0, 1, 1]),
+    ]
+
+def worked():
+    made = [(check_case(job.pack(), proposal_pack(v, y)), told) for job, v, y, told in tables()]
+    thin = Job(2, 1000, [(0, 1, 0, 100)] * 2 + [(0, 0, 0, 100)] * 118)
+    two = Job(0, 1, [(0, 1, 0, 100)] * 2)
+    made.append((house_case(thin.pack(), house.ROOM), [10, 119]))
+    made.append((check_case(two.pack(), proposal_pack([0, 0], [])), [2, 3, 0, 0]))
+    made.append((check_case(b'', b''), [1, 0, 0, 0]))
+    return made
+
+# ---- refusals of the check, and limits
+
+def refused():
+    """Document 01, "Numbers Mr Aldous reads": each number and place is read from there."""
+    made = [(check_case(pack, b''), [*told, 0, 0]) for pack, told in house.refused()]
+    job = three([0, 5, 0], links=LINK * 2)
+    for proposal, place in [
+        (b'', 0),
+        (number(2) + b'\x80', 1),
+        (number(300) + b'\x80\0' + proposal_pack([1], [0, 0]), 2),
+        (proposal_pack([2, 1000001, 1], [0, 0]), 1),
+        (proposal_pack([2, 2, 1], [0, 10 ** 9 + 1]), 4),
+        (proposal_pack([2, 2, 1], [0]), 4),
+        (proposal_pack([101, 2, 1], [0, 0]) + b'\0', 5),
+    ]:
+        made.append((check_case(job.pack(), proposal), [6, place, 0, 0]))
+    made.append((check_case(job.pack(), proposal_pack([2, 101, 102], [0, 0])), [7, 1, 0, 0]))
+    made.append((check_case(job.pack(), proposal_pack([2, 3, 1], [0, 0])), [8, 0, 0, 0]))
+    return made
+
+def limits():
+    """Jobs at the limits of document 01, "Numbers allowed": job, values, multipliers."""
+    million = 10 ** 6
+    largest = [(million - x, 1000, x, x) for i in range(120) for x in [million * (i % 2)]]
+    steep = [(0, 1000, 0, million), (million, 1000, 0, million)]
+    held = [([(0, 1)], million)]
+    heavy = [([(0, 10), (1, 10), (2, 10), (3, 10)], 4 * 10 ** 7)] * 160
+    return [
+        (Job(4, 1000, largest, tolerance=0), [million * (i % 2) for i in range(120)], []),
+        (Job(1, 1, steep, held, tolerance=MOST), [million] * 2, [0]),
+        (Job(1, 1, steep, held, tolerance=MOST - 1), [million] * 2, [0]),
+        (Job(1, 1, steep, held, tolerance=MOST), [million] * 2, [1]),
+        (Job(1, 1, [(0, 1000, 999600, million), steep[1]], held, tolerance=MOST), [million] * 2, [1]),
+        (Job(1, 1, [(0, 1, 0, million)] * 4, heavy, tolerance=MOST), [million] * 4, [10 ** 9] * 160),
+        (Job(1, 1, [(0, 1, 0, million)] * 4, heavy, tolerance=MOST), [0] * 4, [10 ** 9] * 160),
+        (Job(1, 1, [(0, 1, 0, million)] * 4, tolerance=MOST, society=7, job=2 ** 32 - 1), [0] * 4, []),
+    ]
+
+def computed(job, values, multipliers):
+    return check_case(job.pack(), proposal_pack(values, multipliers)), verdict(job, values, multipliers)
+
+# ---- all cases
+
+def solved():
+    """The solver's jobs as they are stored, each with its line."""
+    count = len(optima())
+    made = []
+    for case in packs.cut(packs.STDIN.read_bytes())[-count:] if count else []:
+        job, proposal = packs.packs_of(case)
+        job = packs.job_of(job)
+        made.append(computed(job, *packs.proposal_of(proposal, job)))
+    return made
+
+def cases(last):
+    made = house.cases() + worked() + refused() + [computed(*limit) for limit in limits()] + last
+    return [(case, ' '.join(str(x) for x in told)) for case, told in made]
+
+def write(last):
+    made = cases(last)
+    packs.STDIN.write_bytes(b''.join(case for case, _ in made))
+    packs.STDOUT.write_text(''.join(line + '\n' for _, line in made))
+
+def check():
+    """Counts the cases, and the tables worked by hand on which `tests/verdict.py` has to say the same."""
+    made = cases(solved())
+    stored = list(zip(packs.cut(packs.STDIN.read_bytes()), packs.STDOUT.read_text().splitlines()))
+    wrong = [f'case {i + 1} is not what is computed' for i, x in enumerate(made) if stored[i:i + 1] != [x]]
+    if b''.join(case for case, _ in made) != packs.STDIN.read_bytes() or len(made) != len(packs.STDOUT.read_text().splitlines()):
+        wrong.append('more or less is stored than the cases')
+    wrong += [f'a table worked by hand: {told}' for job, v, y, told in tables() if verdict(job, v, y) != told]
+    for line in wrong:
+        print(line)
+    return len(made) + 1 + len(tables()) - len(wrong), len(wrong)
+
+if __name__ == '__main__':
+    if sys.argv[1:] == ['--check']:
+        passed, failed = check()
+        print(f'{passed} passed, {failed} failed')
+        sys.exit(1 if failed else 0)
+    write(solved())

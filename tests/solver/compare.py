@@ -1,0 +1,99 @@
+#!/usr/bin/env python3
+"""Compares what the check printed for the solver's jobs (the last part of crates/cases/stdout) with the solver's optima, in exact numbers.
+
+Each job's line has to be document 01's verdict, computed here from the stored packs. The least loss of all tables that meet the job lies in the
+interval of tests/solver/optima; if a job is accepted with F and G, it has to lie between F - G and F too. A refused job has to be refused with 9.
+The last line is 'N passed, M failed': one count a job, and one for each wrong line, loss or gap that has to be noticed.
+"""
+import sys
+from math import ceil
+from pathlib import Path
+from statistics import median
+
+sys.path.insert(0, str(Path(__file__).resolve().parents[1]))
+import packs
+from solver.optima import near, optima
+from solver.slips import SLIPS
+from verdict import gap, loss, verdict
+
+class Checked:
+    """A job of the input with its proposal, the line that was printed, and the solver's optimum."""
+
+    def __init__(self, case, line, optimum):
+        job, proposal = packs.packs_of(case)
+        self.job = packs.job_of(job)
+        self.values, self.multipliers = packs.proposal_of(proposal, self.job)
+        self.told, self.optimum = [int(x) for x in line.split()], optimum
+
+    def accepted(self):
+        return self.told[0] == 0
+
+def between(told_loss, told_gap, optimum):
+    """Whether the least loss can lie between F - G and F."""
+    return told_loss - told_gap <= optimum.upper and optimum.lower <= told_loss
+
+def faults(checked):
+    job, optimum = checked.job, checked.optimum
+    own_loss, own_gap = loss(job, checked.values), gap(job, checked.values, checked.multipliers)
+    out = []
+    if optimum.named != [job.society, job.job, len(job.cells), job.order, len(job.links)]:
+        out.append('its optimum is of another job')
+    if checked.told != verdict(job, checked.values, checked.multipliers):
+        out.append('its line is not the verdict of document 01')
+    if checked.told[0] not in (0, 9):
+        out.append('it is refused, and not for its gap')
+    if checked.accepted() and not between(checked.told[2], checked.told[3], optimum):
+        out.append('the least loss does not lie between F - G and F')
+    if not between(own_loss, own_gap, optimum):
+        out.append('the least loss does not lie between F - G and F as computed here')
+    if not near(optimum.figure, optimum.lower, optimum.upper):
+        out.append("the solver's figure is far from its interval")
+    return out
+
+def wrong_lines(jobs):
+    """Wrong lines for the first accepted job with a gap: None for each that is noticed, else what would pass."""
+    checked = next(x for x in jobs if x.accepted() and x.told[3] > 0)
+    right, out = checked.told, []
+    for told in ([0, 0, right[2] + 1, right[3]], [0, 0, right[2], right[3] - 1], [0, 1, *right[2:]], [9, 0, 0, 0]):
+        checked.told = told
+        out.append(None if faults(checked) else f'the line {told} in place of {right}')
+    checked.told = right
+    return out
+
+def wrong_figures(jobs):
+    """Wrong losses and gaps, which the optima alone have to tell: None for each that is noticed, else what would pass."""
+    below = [x for x in jobs if between(ceil(x.optimum.lower) - 1, 0, x.optimum)]
+    out = [f'a loss below the least, in {len(below)} jobs' if below else None]
+    for slip in SLIPS:
+        told = [not between(loss(x.job, x.values), slip(x.job, x.values, x.multipliers), x.optimum) for x in jobs]
+        print(f'{slip.__doc__[:-1]}: told by the optimum in {sum(told)} of {len(jobs)} jobs')
+        out.append(None if any(told) else slip.__doc__)
+    return out
+
+def report(jobs):
+    accepted = [x for x in jobs if x.accepted()]
+    shares = [x.told[3] / x.told[2] for x in accepted if x.told[2] > 0]
+    print(f'{len(jobs)} jobs, {len(accepted)} accepted, {len(jobs) - len(accepted)} refused')
+    print(f'G relative to F: median {median(shares):.2g}, largest {max(shares):.2g}')
+
+def main():
+    stored, cases, lines = optima(), packs.cut(packs.STDIN.read_bytes()), packs.STDOUT.read_text().splitlines()
+    if not stored or len(cases) != len(lines):
+        sys.exit('the stored cases, lines and optima do not belong together')
+    jobs = [Checked(*x) for x in zip(cases[-len(stored):], lines[-len(stored):], stored)]
+    passed = failed = 0
+    for checked in jobs:
+        wrong = faults(checked)
+        for fault in wrong:
+            print(f'job {checked.job.job} of society {checked.job.society}: {fault}')
+        passed, failed = (passed, failed + 1) if wrong else (passed + 1, failed)
+    for wrong in wrong_lines(jobs) + wrong_figures(jobs):
+        if wrong:
+            print(f'not noticed: {wrong}')
+        passed, failed = (passed, failed + 1) if wrong else (passed + 1, failed)
+    report(jobs)
+    print(f'{passed} passed, {failed} failed')
+    sys.exit(1 if failed else 0)
+
+if __name__ == '__main__':
+    main()

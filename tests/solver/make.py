@@ -1,0 +1,153 @@
+#!/usr/bin/python3
+"""Makes the solver's jobs: crates/cases/stdin's last part with its lines, and tests/solver/optima. Needs Debian's python3-cvxopt.
+
+A job from the dice is solved as a quadratic program. The values are rounded to whole rates that meet the job, the multipliers to whole numbers, and
+those are its proposal. A job is drawn again where the solver fails, the interval of its least loss is wide, no such rounding is found, or the gap
+says nothing. What is stored is the record: another version of the solver may find other figures.
+"""
+import random, sys
+from collections import Counter
+from math import ceil, floor
+from pathlib import Path
+
+sys.path.insert(0, str(Path(__file__).resolve().parents[1]))
+from cvxopt import matrix, solvers
+from cases.expect import computed, write
+from solver.bounds import banded, gathered, lower_end, meeting, upper_end
+from solver.jobs import job as drawn
+from solver.optima import OPTIMA, near
+from verdict import gap, loss
+
+SEED, MOST = 1, 10 ** 15
+WIDE = 1e-8
+DIGITS = 6
+
+solvers.options.update(show_progress=False, abstol=1e-14, reltol=1e-13, feastol=1e-13, maxiters=60)
+
+# ---- the solver
+
+def dense(job):
+    a, n = banded(job), len(job.cells)
+    return [[a[max(i, j)][abs(i - j)] if abs(i - j) < len(a[0]) else 0 for j in range(n)] for i in range(n)]
+
+def program(job, free, scale, weight):
+    """The quadratic program of the cells with room in their boxes, in rates of `scale` and losses of scale^2 * weight: P, q, G, h and the
+    links that are rows of G after the floors and ceilings."""
+    a = dense(job)
+    alone = [(i, lo) for i, (_, _, lo, hi) in enumerate(job.cells) if lo == hi]
+    at = {c: p for p, c in enumerate(free)}
+    p = matrix([[2.0 * a[i][j] / weight for i in free] for j in free])
+    q = matrix([2.0 * (sum(a[i][c] * x for c, x in alone) - job.cells[i][1] * job.cells[i][0]) / scale / weight for i in free])
+    rows = [{at[i]: -1.0} for i in free] + [{at[i]: 1.0} for i in free]
+    h = [-job.cells[i][2] / scale for i in free] + [job.cells[i][3] / scale for i in free]
+    used = [j for j, (terms, _) in enumerate(job.links) if any(c in at for c, _ in terms)]
+    for j in used:
+        terms, b = job.links[j]
+        rows.append({at[c]: float(s) for c, s in terms if c in at})
+        h.append((b - sum(s * job.cells[c][2] for c, s in terms if c not in at)) / scale)
+    g = matrix([[row.get(c, 0.0) for row in rows] for c in range(len(free))])
+    return p, q, g, matrix(h), used
+
+def optimum(job):
+    """The solver's values and its multipliers of links, floors and ceilings."""
+    n = len(job.cells)
+    free = [i for i, (_, _, lo, hi) in enumerate(job.cells) if lo < hi]
+    scale = float(max(1, *(u for u, _, _, _ in job.cells), *(lo for _, _, lo, _ in job.cells)))
+    weight = float(max(w for _, w, _, _ in job.cells))
+    p, q, g, h, used = program(job, free, scale, weight)
+    found = solvers.qp(p, q, g, h)
+    values = [float(lo) for _, _, lo, _ in job.cells]
+    floors, ceilings, links = [0.0] * n, [0.0] * n, [0.0] * len(job.links)
+    for place, i in enumerate(free):
+        values[i] = found['x'][place] * scale
+        floors[i], ceilings[i] = (found['z'][place + side * len(free)] * scale * weight for side in (0, 1))
+    for place, j in enumerate(used):
+        links[j] = found['z'][2 * len(free) + place] * scale * weight
+    pull, _ = gathered(job, links, [0.0] * n, [0.0] * n)
+    for i, row in enumerate(dense(job)):
+        if i not in free:
+            slope = 2 * (sum(x * v for x, v in zip(row, values)) - job.cells[i][1] * job.cells[i][0]) + pull[i]
+            floors[i], ceilings[i] = max(0.0, slope), max(0.0, -slope)
+    return values, links, floors, ceilings
+
+# ---- a job with its proposal
+
+class Again(Exception):
+    """Why a job is drawn again."""
+
+def proposal(job, values, links):
+    """Whole values and multipliers near the solver's."""
+    whole, multipliers = meeting(job, values, 1), [max(0, round(y)) for y in links]
+    if whole is None:
+        raise Again('no whole table found')
+    g = gap(job, whole, multipliers)
+    if max(multipliers, default=0) > 10 ** 9 or g > MOST:
+        raise Again('numbers not allowed')
+    if g > loss(job, whole):
+        raise Again('a gap above the loss')
+    return whole, multipliers
+
+def solved(job):
+    """Values, multipliers, and the solver's figure with the two that the least loss lies between."""
+    if all(lo == hi for _, _, lo, hi in job.cells):
+        raise Again('no room in any box')
+    try:
+        values, links, floors, ceilings = optimum(job)
+    except (ArithmeticError, ValueError):
+        raise Again('the solver failed')
+    upper, lower = upper_end(job, values), lower_end(job, links, floors, ceilings)
+    if upper is None or upper - lower > WIDE * upper + 10 ** -DIGITS:
+        raise Again('a wide interval')
+    figure = loss(job, values)
+    if not near(figure, lower, upper):
+        raise Again('an optimum beside its interval')
+    return *proposal(job, values, links), (figure, lower, upper)
+
+def tolerance(job, values, multipliers, turn):
+    """One job in ten has one less than its gap, two have the gap itself, the others somewhat more."""
+    g = gap(job, values, multipliers)
+    if turn % 10 == 0 and g > 0:
+        return g - 1
+    return g if turn % 10 in (1, 2) else min(MOST, g + g // 4 + 10)
+
+def sizes(dice):
+    """Cells, order field and links of every job: small ones, ages of a life, and the largest."""
+    for order in (0, 1, 2, 3, 4):
+        z = order or 2
+        yield z + 1, order, 2
+        yield 120, order, 160
+        yield 120, order, 0
+        for most, count in ((12, 30), (40, 24), (80, 12), (120, 8)):
+            for _ in range(count):
+                n = dice.randint(z + 1, most)
+                yield n, order, dice.randint(0, min(160, n + n // 2))
+
+def decimals(x, side):
+    """A figure in decimals, rounded down or up."""
+    whole = side(x * 10 ** DIGITS)
+    return f'{whole // 10 ** DIGITS}.{whole % 10 ** DIGITS:0{DIGITS}}'
+
+def kept(dice, size, again):
+    """The first drawn job of a size that is not drawn again, and what is found of it; counts the reasons."""
+    while True:
+        job = drawn(dice, *size)
+        try:
+            return job, *solved(job)
+        except Again as reason:
+            again[str(reason)] += 1
+
+def main():
+    dice, cases, again = random.Random(SEED), [], Counter()
+    lines = ['# society, job, cells, order field, links, the least loss as the solver has it, and two figures that it lies between\n']
+    for turn, size in enumerate(sizes(random.Random(SEED))):
+        job, values, multipliers, (figure, lower, upper) = kept(dice, size, again)
+        job.society, job.job, job.tolerance = turn % 8, turn, tolerance(job, values, multipliers, turn)
+        cases.append(computed(job, values, multipliers))
+        named = f'{job.society} {job.job} {len(job.cells)} {job.order} {len(job.links)}'
+        lines.append(f'{named} {figure:.{DIGITS}f} {decimals(lower, floor)} {decimals(upper, ceil)}\n')
+    OPTIMA.write_text(''.join(lines))
+    write(cases)
+    print(f'{len(cases)} jobs; drawn again: {dict(again)}')
+
+if __name__ == '__main__':
+    main()

@@ -7,7 +7,12 @@ use crate::answers::give;
 
 // Check a proposal pack against a job pack and, where it is accepted, keep its table for the society that the job pack names.
 #[no_mangle]
-pub extern "C" fn bench_keep(shelf: &mut [u32], job: &[u8], proposal: &[u8], answer: &mut [u64]) -> u64
+pub extern "C" fn bench_keep(
+    shelf: &mut [u32],
+    job: &[u8],
+    proposal: &[u8],
+    answer: &mut [u64],
+) -> u64
     ensures { λ r. ⌜ ShelfSays (keep (now (job .entry)) (now (proposal .entry))) (now (shelf .entry)) (now (answer .entry)) r (now (answer .exit)) (now (shelf .exit)) ⌝ }
 {
     if answer.len() != ANSWER_WORDS {
@@ -19,7 +24,13 @@ pub extern "C" fn bench_keep(shelf: &mut [u32], job: &[u8], proposal: &[u8], ans
 
 // Hand out the values that are kept for a society under a job's number.
 #[no_mangle]
-pub extern "C" fn bench_fetch(shelf: &[u32], society: u32, job: u32, out: &mut [u32], answer: &mut [u64]) -> u64
+pub extern "C" fn bench_fetch(
+    shelf: &[u32],
+    society: u32,
+    job: u32,
+    out: &mut [u32],
+    answer: &mut [u64],
+) -> u64
     ensures { λ r. ⌜ FetchSays (now (shelf .entry)) society job (now (out .entry)) (now (answer .entry)) r (now (answer .exit)) (now (out .exit)) ⌝ }
 {
     if answer.len() != ANSWER_WORDS {

@@ -17,3 +17,5 @@ pub mod Fetched
 pub mod Layouts
 pub mod ShelfPromises
 pub mod House
+pub mod Unwritten
+pub mod BenchPromises

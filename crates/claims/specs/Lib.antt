@@ -10,3 +10,4 @@ pub mod LastKept
 pub mod Fetched
 pub mod ShelfPromises
 pub mod HousePromises
+pub mod BenchPromises

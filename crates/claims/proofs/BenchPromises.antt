@@ -1,0 +1,106 @@
+-- The promises of the eight calls over C, each a law whose type is its statement in specs/BenchPromises.antt: one general law about `Says`, and an
+-- instance a call.
+use Prim.Native.Nat.{ℕ, _+_, _*_, _/_, _%_, _≤_}
+use mathlib.Core.Path.{_≡_, refl, sym, ap, ap₂, _∙_}
+use mathlib.Core.Bool.{Bool, true, false}
+use mathlib.Core.List.{List, [], _∷_}
+use native.Mathlib.Omega.{arith}
+use lib.Dec.{eqb, ltb}
+use lib.IntN.{ℤ}
+use lib.ListN.{length}
+use lib.Seq.{sets}
+use Rattle.numbers.specs.Choice.{if_then_else_}
+use Rattle.packs.specs.declared.Outcome.{Outcome}
+use Rattle.packs.specs.declared.Outcome.the-variants.{Done, Refused as Refuses}
+use Rattle.packs.specs.Reading.{Ran}
+use Rattle.packs.specs.Writing.{Written, refused, inRoom, roomed}
+use Rattle.jobs.specs.Packs.{handedOut, readJob, readJobInto, writeJob}
+use Rattle.jobs.specs.Words.{jobOf}
+use Rattle.measure.specs.declared.check.Verdict.{Verdict}
+use Rattle.measure.specs.declared.check.Verdict.the-variants.{Accepted, Refused}
+use Rattle.measure.specs.Check.{checkOf}
+use Rattle.shelf.specs.declared.Answer.{Answer}
+use Rattle.shelf.specs.Slots.{refusal, overwritten}
+use Rattle.shelf.specs.Checked.{answerOf}
+use Rattle.shelf.specs.Shelf.{base}
+use Rattle.shelf.specs.Calls.{Call, fetch, after, said}
+use Rattle.house.specs.Proposal.{proposeOf}
+use Rattle.bench.specs.Answers.{codeOf, wordsOf, hasFour, returnedFor, writtenFor, leftFor, Says}
+use Rattle.bench.specs.Calls.{outcomeOf}
+use Rattle.bench.proofs.Small.{Small, check-small}
+use Rattle.bench.proofs.Outcomes.{propose-small, read-small, write-small}
+use Rattle.bench.proofs.Shelves.{said-small}
+use Rattle.claims.specs.BenchPromises.{Untouched, Determined, Numbered, RefusalsKept}
+use Rattle.claims.proofs.Unwritten.{Kept, verdict-kept, write-kept, read-kept, propose-kept, shelf-kept, fetch-kept}
+
+-- ---- determined
+
+one : {A : Type 0} {a : Answer} {answer : List ℕ} {before after : List A} {r s : ℕ} {p q : List ℕ} {x y : List A}
+    → Says a answer before after r p x → Says a answer before after s q y → (r ≡ s) × (p ≡ q) × (x ≡ y)
+one f g = (f .returns ∙ sym (g .returns), f .answers ∙ sym (g .answers), f .leaves ∙ sym (g .leaves))
+
+pub determined : Determined
+determined = record {
+  check = λ job proposal answer r s a b x y f g. let e = one (f .0) (g .0) in (e .0, e .1, f .1 ∙ sym (g .1));
+  propose = λ job out answer r s a b x y f g. one f g;
+  read = λ job words answer r s a b x y f g. one f g;
+  write = λ words out answer r s a b x y f g. one f g;
+  on-shelf = λ call shelf answer r s a b x y f g. one f g;
+  fetch = λ shelf society job out answer r s a b x y f g. one f g;
+}
+
+-- ---- numbers and places
+
+-- a returned number is put together from an answer's number and place, and taken apart again
+number-of : (a : Answer) → Small a → codeOf a % 32 ≡ a .number
+number-of a s = omega (arith, s .number)
+
+place-of : (a : Answer) → Small a → codeOf a / 32 ≡ a .place
+place-of a s = omega (arith, s .number)
+
+module _ {A : Type 0} {a : Answer} (s : Small a) {answer : List ℕ} {before after : List A} {r : ℕ} {p : List ℕ} {x : List A}
+    (says : Says a answer before after r p x) where
+  numbered-by : r % 32 ≤ 13
+  numbered-by = rw (says .returns) (go (hasFour answer))
+    where
+      go : (t : Bool) → (if t then codeOf a else 141) % 32 ≤ 13
+      go true = omega (arith, s .number)
+      go false = omega arith
+
+  kept-by : Kept a before after → (r % 32 ≡ 0 → ⊥) → Untouched answer before r p x
+  kept-by kept n = go (hasFour answer) refl
+    where
+      go : (t : Bool) → hasFour answer ≡ t → Untouched answer before r p x
+      go true e =
+          let same : r ≡ codeOf a = says .returns ∙ rw e in
+          let is = ap (λ (c : ℕ). c % 32) same ∙ number-of a s in
+          let at = ap (λ (c : ℕ). c / 32) same ∙ place-of a s in
+          let k = kept (λ z. n (is ∙ z)) in
+          record {
+            lent = says .leaves ∙ rw e (k .0);
+            told = says .answers ∙ rw (e, is, at, k .1, k .2);
+          }
+      go false e = record { lent = says .leaves ∙ rw e; told = says .answers ∙ rw e }
+
+pub numbered : Numbered
+numbered = record {
+  check = λ job proposal answer r a x says. numbered-by (check-small job proposal) (says .0);
+  propose = λ job out answer r a x says. numbered-by (propose-small (length out) job) says;
+  read = λ job words answer r a x says. numbered-by (read-small (length words) job) says;
+  write = λ words out answer r a x says. numbered-by (write-small (length out) words) says;
+  on-shelf = λ call shelf answer r a x says. numbered-by (said-small shelf call) says;
+  fetch = λ shelf society job out answer r a x says. numbered-by (said-small shelf (fetch society job (length out))) says;
+}
+
+pub refusals-kept : RefusalsKept
+refusals-kept = record {
+  check = λ job proposal answer r a x says n.
+      let u = kept-by (check-small job proposal) (says .0) (verdict-kept (checkOf job proposal) []) n in
+      record { lent = says .1; told = u .told };
+  propose = λ job out answer r a x says n. kept-by (propose-small (length out) job) says (propose-kept (length out) job out) n;
+  read = λ job words answer r a x says n. kept-by (read-small (length words) job) says (read-kept (length words) job words) n;
+  write = λ words out answer r a x says n. kept-by (write-small (length out) words) says (write-kept (length out) (writeJob words) out) n;
+  on-shelf = λ call shelf answer r a x says n. kept-by (said-small shelf call) says (shelf-kept call shelf) n;
+  fetch = λ shelf society job out answer r a x says n.
+      kept-by (said-small shelf (fetch society job (length out))) says (fetch-kept (fetch society job (length out)) shelf out) n;
+}

@@ -1,0 +1,54 @@
+-- What is promised of the eight calls over C, whatever they are lent: short statements about the claims that their contracts cite. The proof of each
+-- stands in proofs/BenchPromises.antt.
+use Prim.Native.Nat.{ℕ, _/_, _%_, _≤_}
+use mathlib.Core.Path.{_≡_}
+use mathlib.Core.List.{List, [], _∷_}
+use lib.IntN.{ℤ}
+use Rattle.numbers.specs.Choice.{if_then_else_}
+use Rattle.shelf.specs.Calls.{Call}
+use Rattle.bench.specs.Answers.{hasFour}
+use Rattle.bench.specs.Calls.{CheckSays, ProposeSays, ReadSays, WriteSays, ShelfSays, FetchSays}
+
+-- What a call may claim of the number that it returns, of its answer slice, and of the slice that it writes to.
+abbrev pub Claim : Type 0 → Type 1
+Claim A = (returned : ℕ) (answered : List ℕ) (left : List A) → Type 0
+
+-- What holds of every call, each with its answer slice and with what was in the slice that it writes to. The check writes to its answer alone.
+pub record OfEachCall (holds : (A : Type 0) (answer : List ℕ) (before : List A) → Claim A → Type 0) : Type 0 where
+  pub check : (job proposal answer : List ℕ) → holds ℕ answer [] (λ r a left. CheckSays job proposal answer r a × (left ≡ []))
+  pub propose : (job out answer : List ℕ) → holds ℕ answer out (ProposeSays job out answer)
+  pub read : (job : List ℕ) (words : List ℤ) (answer : List ℕ) → holds ℤ answer words (ReadSays job words answer)
+  pub write : (words : List ℤ) (out answer : List ℕ) → holds ℕ answer out (WriteSays words out answer)
+  pub on-shelf : (call : Call) (shelf answer : List ℕ) → holds ℕ answer shelf (ShelfSays call shelf answer)
+  pub fetch : (shelf : List ℕ) (society job : ℕ) (out answer : List ℕ) → holds ℕ answer out (FetchSays shelf society job out answer)
+
+-- ---- determined
+
+-- "two results fitting one claim are proved equal": the number returned, and every lent word afterwards.
+abbrev pub OneResult : (A : Type 0) (answer : List ℕ) (before : List A) → Claim A → Type 0
+OneResult A answer before claim =
+    (r s : ℕ) (a b : List ℕ) (x y : List A) → claim r a x → claim s b y → (r ≡ s) × (a ≡ b) × (x ≡ y)
+
+abbrev pub Determined : Type 0
+Determined = OfEachCall OneResult
+
+-- ---- refusals
+
+-- "Every refusal has a number and a place": the remainder by 32 is the number, 13 at most, and the quotient is the place.
+abbrev pub NumberKnown : (A : Type 0) (answer : List ℕ) (before : List A) → Claim A → Type 0
+NumberKnown A answer before claim = (r : ℕ) (a : List ℕ) (x : List A) → claim r a x → r % 32 ≤ 13
+
+-- "A refusal changes no lent word or byte, that answer slice excepted", and there number and place are told, and F and G are 0; an answer slice of
+-- another length is not written to.
+pub record Untouched {A : Type 0} (answer : List ℕ) (before : List A) (returned : ℕ) (answered : List ℕ) (left : List A) : Type 0 where
+  pub lent : left ≡ before
+  pub told : answered ≡ (if hasFour answer then returned % 32 ∷ returned / 32 ∷ 0 ∷ 0 ∷ [] else answer)
+
+abbrev pub RefusalKept : (A : Type 0) (answer : List ℕ) (before : List A) → Claim A → Type 0
+RefusalKept A answer before claim = (r : ℕ) (a : List ℕ) (x : List A) → claim r a x → (r % 32 ≡ 0 → ⊥) → Untouched answer before r a x
+
+abbrev pub Numbered : Type 0
+Numbered = OfEachCall NumberKnown
+
+abbrev pub RefusalsKept : Type 0
+RefusalsKept = OfEachCall RefusalKept

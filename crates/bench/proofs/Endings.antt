@@ -1,6 +1,6 @@
 -- The two ways in which a call ends: without room for its answer it changes nothing; otherwise it gives the answer that the proved function under it made.
 use Prim.Native.Nat.{ℕ}
-use mathlib.Core.Path.{_≡_, refl, ap, _∙_}
+use mathlib.Core.Path.{_≡_, ap, _∙_}
 use mathlib.Core.List.{List}
 use borrow.Author.Tests.{eq-eqb, ne-eqb}
 use lib.ListN.{length}

@@ -1,5 +1,5 @@
 -- The same for how reading, writing and proposing end.
-use Prim.Native.Nat.{ℕ, zero, suc, _+_, _≤_, _<_}
+use Prim.Native.Nat.{ℕ}
 use mathlib.Core.Path.{_≡_, refl}
 use mathlib.Core.Bool.{Bool, true, false}
 use mathlib.Core.List.{List, []}
@@ -7,13 +7,12 @@ use native.Mathlib.Omega.{arith}
 use lib.Dec.{ltb}
 use lib.IntN.{ℤ}
 use lib.Ieee.{Float}
-use lib.ListN.{getD, set}
 use Rattle.numbers.specs.Choice.{if_then_else_}
 use Rattle.fields.specs.Table.{valuesFrom}
 use Rattle.packs.specs.declared.Outcome.{Outcome}
 use Rattle.packs.specs.declared.Outcome.the-variants.{Done, Refused}
 use Rattle.packs.specs.Reading.{Ran}
-use Rattle.packs.specs.Writing.{Written, refused, inRoom, roomed, writeFrom}
+use Rattle.packs.specs.Writing.{refused, inRoom, roomed, writeFrom}
 use Rattle.packs.proofs.Near.{Near}
 use Rattle.jobs.specs.Job.{Job}
 use Rattle.jobs.specs.Words.{jobOf}

@@ -6,7 +6,6 @@ use lib.ListN.{length}
 use lib.Seq.{sets}
 use Rattle.packs.specs.declared.Outcome.{Outcome}
 use Rattle.packs.specs.declared.Outcome.the-variants.{Done, Refused}
-use Rattle.packs.specs.Reading.{Ran}
 use Rattle.packs.specs.Writing.{Written, roomed}
 use Rattle.jobs.specs.Packs.{readJobInto, writeJob}
 use Rattle.measure.specs.Check.{checkOf}
@@ -15,7 +14,7 @@ use Rattle.shelf.specs.declared.Answer.{Answer}
 use Rattle.shelf.specs.Slots.{refusal, overwritten}
 use Rattle.shelf.specs.Checked.{answerOf}
 use Rattle.shelf.specs.Shelf.{base}
-use Rattle.shelf.specs.Calls.{Call, keep, fetch, forget, clear, after, said}
+use Rattle.shelf.specs.Calls.{Call, fetch, after, said}
 use Rattle.bench.specs.Answers.{Says}
 
 -- ---- a proposal checked, and one made

@@ -1,6 +1,5 @@
 // What every call ends with: number, place, F and G in the lent answer, and one number returned that tells number and place.
 ghost use mathlib.Core.Path.{_≡_};
-ghost use mathlib.Core.List.{List};
 ghost use Prim.Native.Nat.{_^_, _<_};
 ghost use lib.ListN.{length};
 ghost use Rattle.shelf.specs.Checked.{answerOf};

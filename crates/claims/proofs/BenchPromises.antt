@@ -1,37 +1,26 @@
 -- The promises of the eight calls over C, each a law whose type is its statement in specs/BenchPromises.antt: one general law about `Says`, and an
 -- instance a call.
-use Prim.Native.Nat.{ℕ, _+_, _*_, _/_, _%_, _≤_}
-use mathlib.Core.Path.{_≡_, refl, sym, ap, ap₂, _∙_}
+use Prim.Native.Nat.{ℕ, _/_, _%_, _≤_}
+use mathlib.Core.Path.{_≡_, refl, sym, ap, _∙_}
 use mathlib.Core.Bool.{Bool, true, false}
-use mathlib.Core.List.{List, [], _∷_}
+use mathlib.Core.List.{List, []}
 use native.Mathlib.Omega.{arith}
-use lib.Dec.{eqb, ltb}
-use lib.IntN.{ℤ}
-use lib.ListN.{length}
-use lib.Seq.{sets}
+use lib.ListN.{length, drop}
 use Rattle.numbers.specs.Choice.{if_then_else_}
-use Rattle.packs.specs.declared.Outcome.{Outcome}
-use Rattle.packs.specs.declared.Outcome.the-variants.{Done, Refused as Refuses}
-use Rattle.packs.specs.Reading.{Ran}
-use Rattle.packs.specs.Writing.{Written, refused, inRoom, roomed}
-use Rattle.jobs.specs.Packs.{handedOut, readJob, readJobInto, writeJob}
-use Rattle.jobs.specs.Words.{jobOf}
-use Rattle.measure.specs.declared.check.Verdict.{Verdict}
-use Rattle.measure.specs.declared.check.Verdict.the-variants.{Accepted, Refused}
+use Rattle.packs.specs.Writing.{roomed}
+use Rattle.jobs.specs.Packs.{readJobInto, writeJob}
 use Rattle.measure.specs.Check.{checkOf}
 use Rattle.shelf.specs.declared.Answer.{Answer}
-use Rattle.shelf.specs.Slots.{refusal, overwritten}
-use Rattle.shelf.specs.Checked.{answerOf}
 use Rattle.shelf.specs.Shelf.{base}
-use Rattle.shelf.specs.Calls.{Call, fetch, after, said}
+use Rattle.shelf.specs.Calls.{fetch, after, said}
 use Rattle.house.specs.Proposal.{proposeOf}
-use Rattle.bench.specs.Answers.{codeOf, wordsOf, hasFour, returnedFor, writtenFor, leftFor, Says}
-use Rattle.bench.specs.Calls.{outcomeOf}
+use Rattle.bench.specs.Answers.{codeOf, hasFour, Says}
 use Rattle.bench.proofs.Small.{Small, check-small}
 use Rattle.bench.proofs.Outcomes.{propose-small, read-small, write-small}
 use Rattle.bench.proofs.Shelves.{said-small}
-use Rattle.claims.specs.BenchPromises.{Untouched, Determined, Numbered, RefusalsKept}
+use Rattle.claims.specs.BenchPromises.{Untouched, Determined, Numbered, RefusalsKept, RestsKept}
 use Rattle.claims.proofs.Unwritten.{Kept, verdict-kept, write-kept, read-kept, propose-kept, shelf-kept, fetch-kept}
+use Rattle.claims.proofs.Beyond.{beyond-made, beyond-values, write-within, read-within, propose-within, fetch-within}
 
 -- ---- determined
 
@@ -82,6 +71,18 @@ module _ {A : Type 0} {a : Answer} (s : Small a) {answer : List ℕ} {before aft
           }
       go false e = record { lent = says .leaves ∙ rw e; told = says .answers ∙ rw e }
 
+  rest-by : ((m : ℕ) → a .place ≡ m → drop m after ≡ drop m before) → r % 32 ≡ 0 → drop (r / 32) x ≡ drop (r / 32) before
+  rest-by beyond z = go (hasFour answer) refl
+    where
+      go : (t : Bool) → hasFour answer ≡ t → drop (r / 32) x ≡ drop (r / 32) before
+      go true e =
+          let same : r ≡ codeOf a = says .returns ∙ rw e in
+          let at = ap (λ (c : ℕ). c / 32) same ∙ place-of a s in
+          ap (drop (r / 32)) (says .leaves ∙ rw e) ∙ beyond (r / 32) (sym at)
+      go false e =
+          let same : r ≡ 141 = says .returns ∙ rw e in
+          absurd (omega (arith, same))
+
 pub numbered : Numbered
 numbered = record {
   check = λ job proposal answer r a x says. numbered-by (check-small job proposal) (says .0);
@@ -103,4 +104,21 @@ refusals-kept = record {
   on-shelf = λ call shelf answer r a x says n. kept-by (said-small shelf call) says (shelf-kept call shelf) n;
   fetch = λ shelf society job out answer r a x says n.
       kept-by (said-small shelf (fetch society job (length out))) says (fetch-kept (fetch society job (length out)) shelf out) n;
+}
+
+pub rests-kept : RestsKept
+rests-kept = record {
+  propose = λ job out answer r a x says z.
+      let made = proposeOf (length out) job in
+      rest-by (propose-small (length out) job) says (λ m e. beyond-made (made .bytes) out m (omega (arith, e, propose-within (length out) job))) z;
+  read = λ job words answer r a x says z.
+      let made = readJobInto (length words) job in
+      rest-by (read-small (length words) job) says (λ m e. beyond-made (made .words) words m (omega (arith, e, read-within (length words) job))) z;
+  write = λ words out answer r a x says z.
+      let made = roomed (length out) (writeJob words) in
+      rest-by (write-small (length out) words) says (λ m e. beyond-made (made .bytes) out m (omega (arith, e, write-within (length out) words))) z;
+  fetch = λ shelf society job out answer r a x says z.
+      let call = fetch society job (length out) in
+      rest-by (said-small shelf call) says
+      (λ m e. beyond-values (said base shelf call .values) out m (omega (arith, e, fetch-within shelf society job (length out)))) z;
 }

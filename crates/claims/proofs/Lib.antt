@@ -18,4 +18,5 @@ pub mod Layouts
 pub mod ShelfPromises
 pub mod House
 pub mod Unwritten
+pub mod Beyond
 pub mod BenchPromises

@@ -48,7 +48,8 @@ room-nothing room bytes (Done k) n = go (ltb room k) n
     go true m = refl
     go false m = absurd (m refl)
 
-abbrev handed : (k : ℕ) (words : List ℤ) → Bool → Ran
+-- the words handed out, or 13 where there is no room for k
+abbrev pub handed : (k : ℕ) (words : List ℤ) → Bool → Ran
 handed k words t = if t then record { words = []; outcome = Refuses 13 k } else record { words = words; outcome = Done k }
 
 handed-nothing : (room : ℕ) (words : List ℤ) (o : Outcome) → Nothing (handedOut room words o .outcome) (handedOut room words o .words)

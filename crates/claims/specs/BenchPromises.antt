@@ -4,6 +4,7 @@ use Prim.Native.Nat.{ℕ, _/_, _%_, _≤_}
 use mathlib.Core.Path.{_≡_}
 use mathlib.Core.List.{List, [], _∷_}
 use lib.IntN.{ℤ}
+use lib.ListN.{drop}
 use Rattle.numbers.specs.Choice.{if_then_else_}
 use Rattle.shelf.specs.Calls.{Call}
 use Rattle.bench.specs.Answers.{hasFour}
@@ -52,3 +53,19 @@ Numbered = OfEachCall NumberKnown
 
 abbrev pub RefusalsKept : Type 0
 RefusalsKept = OfEachCall RefusalKept
+
+-- ---- outputs
+
+-- What holds of every call that writes to an output.
+pub record OfEachOutput (holds : (A : Type 0) (answer : List ℕ) (before : List A) → Claim A → Type 0) : Type 0 where
+  pub propose : (job out answer : List ℕ) → holds ℕ answer out (ProposeSays job out answer)
+  pub read : (job : List ℕ) (words : List ℤ) (answer : List ℕ) → holds ℤ answer words (ReadSays job words answer)
+  pub write : (words : List ℤ) (out answer : List ℕ) → holds ℕ answer out (WriteSays words out answer)
+  pub fetch : (shelf : List ℕ) (society job : ℕ) (out answer : List ℕ) → holds ℕ answer out (FetchSays shelf society job out answer)
+
+-- "A success leaves output beyond what it writes untouched": beyond the place, which is how much it wrote.
+abbrev pub RestKept : (A : Type 0) (answer : List ℕ) (before : List A) → Claim A → Type 0
+RestKept A answer before claim = (r : ℕ) (a : List ℕ) (x : List A) → claim r a x → r % 32 ≡ 0 → drop (r / 32) x ≡ drop (r / 32) before
+
+abbrev pub RestsKept : Type 0
+RestsKept = OfEachOutput RestKept

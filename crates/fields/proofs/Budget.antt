@@ -1,6 +1,6 @@
 -- How far a walk along the table can go: every step takes one number off a field's budget, and the cell or link that a field stands in, which is the
 -- place of the table's own refusals, rises no faster than the budget falls.
-use Prim.Native.Nat.{ℕ, _+_, _-_, _*_, _≤_, _<_}
+use Prim.Native.Nat.{ℕ, _+_, _-_, _*_, _≤_}
 use mathlib.Core.Path.{_≡_, refl}
 use mathlib.Core.Bool.{Bool, true, false}
 use native.Mathlib.Omega.{arith}

@@ -1,5 +1,5 @@
 -- How large the places of the two packs can be: a job has at most 2,087 numbers, a proposal for one at most 280.
-use Prim.Native.Nat.{ℕ, _*_, _+_, _≤_}
+use Prim.Native.Nat.{ℕ, _*_, _≤_}
 use mathlib.Core.Path.{refl}
 use mathlib.Core.List.{List}
 use native.Mathlib.Omega.{arith}

@@ -1,0 +1,138 @@
+-- No call writes further on than its place: what it makes is no longer than the place says, and a store leaves what lies beyond it.
+use Prim.Native.Nat.{ℕ, zero, suc, _+_, _*_, _-_, _≤_, _<_}
+use mathlib.Core.Path.{_≡_, refl, sym, ap, _∙_}
+use mathlib.Core.Bool.{Bool, true, false, cond}
+use mathlib.Core.List.{List, [], _∷_}
+use native.Mathlib.Omega.{arith}
+use lib.Dec.{eqb, leb, ltb}
+use lib.IntN.{ℤ}
+use lib.Ieee.{Float}
+use lib.ListN.{length, take, drop, getD, set, length-take}
+use lib.Seq.{sets, drop-drop, drop-append-add}
+use Rattle.numbers.specs.Choice.{if_then_else_}
+use Rattle.fields.specs.declared.Field.the-variants.{Society}
+use Rattle.fields.specs.Table.{valuesFrom}
+use Rattle.packs.specs.declared.Outcome.{Outcome}
+use Rattle.packs.specs.declared.Outcome.the-variants.{Done, Refused}
+use Rattle.packs.specs.Writing.{refused, inRoom, roomed, writeFrom}
+use Rattle.packs.proofs.Onto.{length-written}
+use Rattle.jobs.specs.Job.{Job}
+use Rattle.jobs.specs.Words.{jobOf}
+use Rattle.jobs.specs.Packs.{handedOut, readJob, readJobInto, writeJob, writeProposal}
+use Rattle.jobs.proofs.Handed.{six-done}
+use Rattle.jobs.proofs.Readings.{read-words-counted}
+use Rattle.house.specs.declared.factor.Ending.{Ending}
+use Rattle.house.specs.declared.factor.Ending.the-variants.{Whole, Thin}
+use Rattle.house.specs.Proposal.{wordsOf, onEnding, solvedOf, proposedOf, onRead, proposeOf}
+use Rattle.shelf.specs.declared.Slot.{Slot}
+use Rattle.shelf.specs.declared.Slot.the-variants.{At, Nowhere}
+use Rattle.shelf.specs.Slots.{Reply, refusal, joined, lowest, hasJob, atSlot, fetchAt, fetchIn, overwritten}
+use Rattle.shelf.specs.Shelf.{base, spanOf, fromSociety, fromWhole, fetchReply}
+use Rattle.shelf.specs.Calls.{fetch, wholeSaid, said}
+use Rattle.bench.specs.Calls.{outcomeOf}
+use Rattle.claims.proofs.Unwritten.{handed}
+
+-- ---- stores leave what lies beyond them
+
+drop-set : {A : Type 0} (l : List A) (i m : ℕ) (a : A) → i < m → drop m (set l i a) ≡ drop m l
+drop-set l i zero a h = absurd (omega arith)
+drop-set [] i (suc m) a h = refl
+drop-set (b ∷ l) zero (suc m) a h = refl
+drop-set (b ∷ l) (suc i) (suc m) a h = drop-set l i m a (omega arith)
+
+beyond-sets : {A : Type 0} (made l : List A) (i m : ℕ) → i + length made ≤ m → drop m (sets l i made) ≡ drop m l
+beyond-sets [] l i m h = refl
+beyond-sets (a ∷ made) l i m h = beyond-sets made (set l i a) (suc i) m (omega arith) ∙ drop-set l i m a (omega arith)
+
+pub beyond-made : {A : Type 0} (made l : List A) (m : ℕ) → length made ≤ m → drop m (sets l 0 made) ≡ drop m l
+beyond-made made l m h = beyond-sets made l 0 m (omega arith)
+
+pub beyond-values : (values out : List ℕ) (m : ℕ) → length values ≤ m → drop m (overwritten out values) ≡ drop m out
+beyond-values values out m h =
+    let e : length values + (m - length values) ≡ m = omega arith in
+    ap (λ (k : ℕ). drop k (overwritten out values)) (sym e) ∙ drop-append-add values (drop (length values) out) (m - length values)
+    ∙ drop-drop (m - length values) (length values) out ∙ ap (λ (k : ℕ). drop k out) e
+
+-- ---- what is made is no longer than the place
+
+abbrev pub Within : {A : Type 0} → Outcome → List A → Type 0
+Within o made = length made ≤ outcomeOf o .place
+
+room-within : (room : ℕ) (bytes : List ℕ) (o : Outcome) → ((n : ℕ) → o ≡ Done n → length bytes ≤ n) → Within (inRoom room bytes o .outcome) (inRoom room bytes o .bytes)
+room-within room bytes (Refused number place) h = omega arith
+room-within room bytes (Done n) h = go (ltb room n)
+  where
+    go : (t : Bool) → Within ((if t then refused 13 n else record { bytes = bytes; outcome = Done n }) .outcome) ((if t then refused 13 n else record { bytes = bytes; outcome = Done n }) .bytes)
+    go true = omega arith
+    go false = h n refl
+
+pub write-within : (room : ℕ) (words : List ℤ) → Within (roomed room (writeJob words) .outcome) (roomed room (writeJob words) .bytes)
+write-within room words =
+    room-within room (writeJob words .bytes) (writeJob words .outcome) (λ n e. omega (arith, length-written words Society 0 n e))
+
+handed-within : (room : ℕ) (words : List ℤ) (o : Outcome) → ((n : ℕ) → o ≡ Done n → length words ≤ n) → Within (handedOut room words o .outcome) (handedOut room words o .words)
+handed-within room words (Refused number place) h = omega arith
+handed-within room words (Done n) h = go (ltb room n)
+  where
+    go : (t : Bool) → Within (handed n words t .outcome) (handed n words t .words)
+    go true = omega arith
+    go false = h n refl
+
+pub read-within : (room : ℕ) (job : List ℕ) → Within (readJobInto room job .outcome) (readJobInto room job .words)
+read-within room job = handed-within room (readJob job .words) (readJob job .outcome) (λ n e. omega (arith, read-words-counted job n e))
+
+ending-within : (room : ℕ) (j : Job) (v : List Float) (e : Ending) → Within (onEnding room j v e .outcome) (onEnding room j v e .bytes)
+ending-within room j v Whole =
+    let w = writeProposal (j .cells) (j .links) (wordsOf j v) in
+    let first = valuesFrom (j .cells) (j .links) in
+    room-within room (w .bytes) (w .outcome)
+    (λ n e. omega (arith, length-written (wordsOf j v) first 0 n (six-done (writeFrom (wordsOf j v) first 0 .outcome) n e)))
+ending-within room j v (Thin cell pivot) = omega arith
+
+proposed-within : (room : ℕ) (j : Job) → Within (proposedOf room j .outcome) (proposedOf room j .bytes)
+unfolding proposedOf
+proposed-within room j = ending-within room j (solvedOf j .values) (solvedOf j .ending)
+
+on-read-within : (room : ℕ) (words : List ℤ) (o : Outcome) → Within (onRead room words o .outcome) (onRead room words o .bytes)
+on-read-within room words (Done k) = proposed-within room (jobOf words)
+on-read-within room words (Refused number place) = omega arith
+
+pub propose-within : (room : ℕ) (job : List ℕ) → Within (proposeOf room job .outcome) (proposeOf room job .bytes)
+propose-within room job = on-read-within room (readJob job .words) (readJob job .outcome)
+
+-- ---- the values that a fetch hands out
+
+abbrev Handed : Reply → Type 0
+Handed r = length (r .values) ≤ r .answer .place
+
+at-handed : (room : ℕ) (x : List ℕ) → Handed (fetchAt room x)
+unfolding fetchAt
+at-handed room x = go (leb (getD x 0 0) room)
+  where
+    go : (t : Bool) → Handed (cond t (record { answer = record { number = 0; place = getD x 0 0; loss = joined (getD x 2 0) (getD x 3 0); gap = joined (getD x 4 0) (getD x 5 0) }; values = take (getD x 0 0) (drop 6 x) }) (refusal 13 (getD x 0 0)))
+    go true = omega (arith, length-take (getD x 0 0) (drop 6 x))
+    go false = omega arith
+
+in-handed : (w c job room : ℕ) (s : List ℕ) → Handed (fetchIn w c job room s)
+unfolding fetchIn
+in-handed w c job room s = go (lowest (hasJob job) w c s)
+  where
+    go : (o : Slot) → Handed (atSlot o (λ p. fetchAt room (drop (w * p) s)) (refusal 12 0))
+    go (At p) = at-handed room (drop (w * p) s)
+    go Nowhere = omega arith
+
+society-handed : (society job room : ℕ) (shelf : List ℕ) → Handed (wholeSaid base shelf (fetch society job room))
+unfolding fetchReply fromSociety
+society-handed society job room shelf = go (leb society 7)
+  where
+    go : (t : Bool) → Handed (cond t (fetchIn 126 4 job room (spanOf base society shelf)) (refusal 11 0))
+    go true = in-handed 126 4 job room (spanOf base society shelf)
+    go false = omega arith
+
+pub fetch-within : (shelf : List ℕ) (society job room : ℕ) → Handed (said base shelf (fetch society job room))
+unfolding fromWhole
+fetch-within shelf society job room = go (eqb (length shelf) 4032)
+  where
+    go : (t : Bool) → Handed (cond t (wholeSaid base shelf (fetch society job room)) (refusal 13 4032))
+    go true = society-handed society job room shelf
+    go false = omega arith

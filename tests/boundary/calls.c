@@ -72,7 +72,7 @@ const char *call_both(const struct call *c, uint64_t said[SIDES])
 {
     const char *wrong = NULL;
     for (int side = 0; side < SIDES; side++) {
-        void *p[MOST_SLICES];
+        void *p[MOST_SLICES] = {0};
         for (int i = 0; i < c->slices; i++)
             p[i] = lent_lay(side, i, &c->slice[i]);
         said[side] = side == 0 ? on_bench(c, p) : on_twin(c, p);

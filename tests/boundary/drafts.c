@@ -1,6 +1,7 @@
 /* Jobs of every shape with tables that meet them. The table is planted first and the links are drawn around it, so that acceptance is common;
  * many tables are near the best one, so that gaps are small and a wrong one shows. */
 #include "drafts.h"
+#include "extremes.h"
 
 #include <string.h>
 
@@ -71,24 +72,10 @@ static void draw_cells(struct random *r, struct twin_job *job)
         }
 }
 
-/* A long table whose weights are in its first cells alone: the house proposal finds it too thin, or nearly so. */
-static void draw_thin(struct random *r, struct twin_job *job)
-{
-    job->cells = random_between(r, 8, 120);
-    job->order_field = job->order = random_between(r, 1, 4);
-    job->constant = random_between(r, 100, 1000);
-    for (int64_t i = 0; i < job->cells; i++) {
-        job->u[i] = random_below(r, 1000);
-        job->w[i] = i < job->order + random_below(r, 2) ? random_between(r, 1, 3) : 0;
-        job->lo[i] = 0;
-        job->hi[i] = MOST_VALUE;
-    }
-}
-
 static void plant_table(struct random *r, struct draft *d)
 {
     struct twin_job *job = &d->job;
-    int64_t style = random_below(r, 5), level = random_below(r, MOST_VALUE + 1);
+    int64_t style = random_below(r, 6), level = random_below(r, MOST_VALUE + 1);
     if (style <= 1 && twin_house(job, d->table.value).number != 0)
         style = 2;
     for (int64_t i = 0; i < job->cells; i++) {
@@ -101,6 +88,8 @@ static void plant_table(struct random *r, struct draft *d)
             *v = random_between(r, job->lo[i], job->hi[i]);
         if (style == 4)
             *v = within(level, job->lo[i], job->hi[i]);
+        if (style == 5)
+            *v = i % 2 == 0 ? job->lo[i] : job->hi[i];
     }
 }
 
@@ -166,29 +155,6 @@ static void close_boxes(struct random *r, struct draft *d, int percent)
     }
 }
 
-/* A flat table equal to its crude rates, with one residual at or about plus or minus 2,000,000,000, where the square and the box term are
- * both about 10^15. */
-static void draw_edge(struct random *r, struct draft *d)
-{
-    struct twin_job *job = &d->job;
-    int64_t level = 500000 + random_between(r, -1, 1) * random_below(r, 3), sign = random_chance(r, 50) ? 1 : -1;
-    int64_t cell = random_below(r, job->cells);
-    for (int64_t i = 0; i < job->cells; i++) {
-        job->u[i] = d->table.value[i] = level;
-        job->w[i] = 1000;
-        job->lo[i] = random_below(r, 3);
-        job->hi[i] = MOST_VALUE - random_below(r, 3);
-    }
-    job->links = random_between(r, 1, 3);
-    for (int64_t l = 0; l < job->links; l++) {
-        job->link[l].terms = 1;
-        job->link[l].cell[0] = cell;
-        job->link[l].coefficient[0] = sign * (l == 0 ? 10 : l == 1 ? 1 : -1);
-        job->link[l].bound = sum_of(&job->link[l], &d->table);
-        d->table.multiplier[l] = l == 0 ? 200000000 - random_below(r, 2) : random_below(r, 12);
-    }
-}
-
 /* The tolerance: the gap, one off, or any other. */
 static void settle_tolerance(struct random *r, struct draft *d)
 {
@@ -203,22 +169,39 @@ static void settle_tolerance(struct random *r, struct draft *d)
         d->job.tolerance = random_between(r, 0, MOST_TOLERANCE);
 }
 
+/* How many links, and how many terms each has if not any number. */
+static void draw_counts(struct random *r, const struct twin_job *job, int64_t *links, int64_t *terms)
+{
+    *links = random_chance(r, 40) ? 0 : random_chance(r, 85) ? random_between(r, 1, 4) : random_between(r, 5, 20);
+    *terms = 0;
+    if (job->cells == MOST_CELLS) {
+        *links = MOST_LINKS;
+        *terms = random_chance(r, 70) ? MOST_TERMS : 0;
+    }
+}
+
 void draft_make(struct random *r, struct draft *d)
 {
+    int64_t kind = random_below(r, 100), links, terms;
     draw_header(r, &d->job);
-    if (random_chance(r, 3)) {
-        draw_edge(r, d);
+    if (kind < 3) {
+        extreme_residual(r, d);
+    } else if (kind == 3) {
+        extreme_gap(r, d);
     } else {
-        if (random_chance(r, 4))
-            draw_thin(r, &d->job);
+        if (kind < 18)
+            extreme_pivots(r, &d->job);
+        else if (kind > 96)
+            extreme_halves(r, &d->job);
         else
             draw_cells(r, &d->job);
         plant_table(r, d);
-        int64_t links = random_chance(r, 40) ? 0 : random_chance(r, 85) ? random_between(r, 1, 4) : random_between(r, 5, 20);
-        if (d->job.cells == 120)
-            links = 160;
-        draw_links(r, d, links, links == 160 && random_chance(r, 70) ? 4 : 0);
-        close_boxes(r, d, random_chance(r, 60) ? 90 : 20);
+        if (kind == 18)
+            extreme_loss(r, d);
+        draw_counts(r, &d->job, &links, &terms);
+        draw_links(r, d, links, terms);
+        if (kind <= 96)
+            close_boxes(r, d, kind == 18 || random_chance(r, 50) ? 100 : random_chance(r, 50) ? 90 : 20);
     }
     settle_tolerance(r, d);
 }

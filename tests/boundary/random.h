@@ -1,4 +1,5 @@
-/* A seeded sequence of numbers, the same on every machine, so that a mismatch can be made again from its seed. */
+/* A seeded sequence of numbers, the same on every machine, so that a mismatch can be made again from its seed.
+ * No expression draws twice without an order between the two draws. */
 #ifndef RANDOM_H
 #define RANDOM_H
 

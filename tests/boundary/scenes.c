@@ -5,7 +5,9 @@
 
 #include <string.h>
 
-static struct draft draft, broken;
+/* The draft that is in use, which `drawn` or its broken copy is. */
+static struct draft drawn, broken;
+static const struct draft *draft = &drawn;
 static struct numbers list;
 static struct bytes job_pack, proposal_pack;
 static struct words job_words;
@@ -28,7 +30,8 @@ static void lend(struct call *c, const void *content, size_t count, size_t width
 static void lend_answer(struct random *r, struct call *c)
 {
     static const size_t odd[] = {0, 3, 5, 8};
-    lend(c, some_noise(r), random_chance(r, 3) ? odd[random_below(r, 4)] : ANSWER_WORDS, sizeof(uint64_t), true);
+    size_t count = random_chance(r, 3) ? odd[random_below(r, 4)] : ANSWER_WORDS;
+    lend(c, some_noise(r), count, sizeof(uint64_t), true);
 }
 
 static void lend_shelf(struct random *r, struct call *c, bool writable)
@@ -67,38 +70,35 @@ static void begin_shelf(struct random *r)
         garbage_shelf(r);
 }
 
-static void spoil_job(struct random *r)
+static void break_draft(struct random *r)
 {
-    broken = draft;
-    if (random_chance(r, 50)) {
-        draft_break(r, &broken);
-        if (random_chance(r, 15))
-            draft_break(r, &broken);
-        numbers_of_job(&broken.job, &list);
-        numbers_pack(&list, &job_pack);
-    } else {
-        numbers_of_job(&broken.job, &list);
-        numbers_spoil_pack(r, &list, &job_pack);
-    }
+    broken = drawn;
+    draft = &broken;
+    draft_break(r, &broken);
     if (random_chance(r, 15))
-        bytes_spoil(r, &job_pack);
+        draft_break(r, &broken);
 }
 
+/* The job pack: whole, with a broken rule, or damaged; now and then twice, so that the order of refusals shows. */
 static void draw_job(struct random *r)
 {
-    if (random_chance(r, 45)) {
-        spoil_job(r);
-        return;
-    }
-    broken = draft;
-    numbers_of_job(&draft.job, &list);
-    numbers_pack(&list, &job_pack);
+    bool rule = random_chance(r, 22), number = !rule && random_chance(r, 28);
+    draft = &drawn;
+    if (rule)
+        break_draft(r);
+    numbers_of_job(&draft->job, &list);
+    if (number)
+        numbers_spoil_pack(r, &list, &job_pack);
+    else
+        numbers_pack(&list, &job_pack);
+    if ((rule || number) && random_chance(r, 15))
+        bytes_spoil(r, &job_pack);
 }
 
 /* The proposal for the job just drawn: the planted table, the house's own, or a damaged one. */
 static void draw_proposal(struct random *r)
 {
-    numbers_of_proposal(&broken, &list);
+    numbers_of_proposal(draft, &list);
     if (random_chance(r, 15)) {
         uint64_t answer[ANSWER_WORDS];
         proposal_pack.count = twin_propose(job_pack.at, job_pack.count, proposal_pack.at, MOST_BYTES, answer, ANSWER_WORDS) / 32;
@@ -115,10 +115,10 @@ static void draw_proposal(struct random *r)
 
 static void draw_words(struct random *r)
 {
-    broken = draft;
+    draft = &drawn;
     if (random_chance(r, 25))
-        draft_break(r, &broken);
-    numbers_of_job(&broken.job, &list);
+        break_draft(r);
+    numbers_of_job(&draft->job, &list);
     numbers_words(&list, &job_words);
     if (random_chance(r, 40))
         words_spoil(r, &list, &job_words);
@@ -188,13 +188,13 @@ static void shelf_call(struct random *r, struct call *c)
 void scene_call(struct random *r, struct call *c)
 {
     static const struct { enum function function; int share; } shares[] = {
-        {CHECK, 260}, {PROPOSE, 130}, {KEEP, 230}, {FETCH, 110}, {FORGET, 47}, {CLEAR, 3}, {READ, 90}, {WRITE, 130},
+        {CHECK, 240}, {PROPOSE, 160}, {KEEP, 235}, {FETCH, 110}, {FORGET, 47}, {CLEAR, 8}, {READ, 80}, {WRITE, 120},
     };
     for (size_t i = 0; !begun && i < sizeof noise / sizeof *noise; i++)
         noise[i] = random_next(r);
     if (!begun || random_chance(r, 25))
-        draft_make(r, &draft);
-    if (!begun || random_below(r, 700) == 0)
+        draft_make(r, &drawn);
+    if (!begun || random_below(r, 400) == 0)
         begin_shelf(r);
     begun = true;
     memset(c, 0, sizeof *c);

@@ -1,10 +1,12 @@
 /* The bench against the twin: random calls with the same memory, compared in what they return and in every lent byte.
  * Arguments: the seed, the count of calls, and `end` or `start` if slices shall lie flush against a page that nobody may touch.
  * It ends with 1 at the first mismatch, or if some number that a call can give was never given. */
+#define _POSIX_C_SOURCE 200809L
 #include "calls.h"
 #include "scenes.h"
 
 #include <inttypes.h>
+#include <signal.h>
 #include <stdio.h>
 #include <stdlib.h>
 #include <string.h>
@@ -63,19 +65,37 @@ static int judge_tally(void)
     return wrong;
 }
 
-static int run(uint64_t seed, uint64_t count)
+/* The call that is under way, for the report of a call that never returned. */
+static struct call call;
+static uint64_t said[SIDES], seed, number_of_call;
+
+static void mismatch(const char *wrong)
+{
+    printf("MISMATCH  seed %" PRIu64 ", call %" PRIu64 ": %s\n", seed, number_of_call, wrong);
+    call_report(&call, said);
+    fflush(stdout);
+}
+
+/* A guard page was touched, or the processor stopped the call in another way. */
+static void stopped(int signal)
+{
+    (void)signal;
+    mismatch("the call was stopped by a signal");
+    _Exit(1);
+}
+
+static int run(uint64_t count)
 {
     struct random random = {seed};
     for (uint64_t i = 0; i < count; i++) {
-        struct call call;
-        uint64_t said[SIDES];
+        number_of_call = i;
         scene_call(&random, &call);
+        said[0] = said[1] = UINT64_MAX;
         const char *wrong = call_both(&call, said);
         if (!wrong && said[0] % 32 >= NUMBERS)
             wrong = "a number above 13";
         if (wrong) {
-            printf("MISMATCH  seed %" PRIu64 ", call %" PRIu64 ": %s\n", seed, i, wrong);
-            call_report(&call, said);
+            mismatch(wrong);
             return 1;
         }
         tally[call.function][said[0] % 32]++;
@@ -92,5 +112,10 @@ int main(int argc, char **argv)
         return 2;
     }
     lent_open(argc == 3 ? MIDDLE : strcmp(argv[3], "end") == 0 ? END : START);
-    return run(strtoull(argv[1], NULL, 10), strtoull(argv[2], NULL, 10));
+    signal(SIGSEGV, stopped);
+    signal(SIGBUS, stopped);
+    signal(SIGFPE, stopped);
+    signal(SIGILL, stopped);
+    seed = strtoull(argv[1], NULL, 10);
+    return run(strtoull(argv[2], NULL, 10));
 }

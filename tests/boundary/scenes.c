@@ -132,8 +132,10 @@ static void draw_key(struct random *r, struct call *c)
     static const uint32_t odd[] = {8, 9, 32, 4294967295};
     c->society = (uint32_t)(random_chance(r, 60) ? random_below(r, 2) * 7 : random_below(r, 8));
     c->job = (uint32_t)random_below(r, 6);
-    if (random_chance(r, 50))
-        c->job = shelf[((size_t)c->society * SLOTS + (size_t)random_below(r, SLOTS)) * SLOT_WORDS + 1];
+    if (random_chance(r, 70)) {
+        int64_t slots = random_between(r, 1, SLOTS);
+        c->job = shelf[((size_t)c->society * SLOTS + (size_t)random_below(r, slots)) * SLOT_WORDS + 1];
+    }
     if (random_chance(r, 8))
         c->society = odd[random_below(r, 4)];
 }
@@ -188,7 +190,7 @@ static void shelf_call(struct random *r, struct call *c)
 void scene_call(struct random *r, struct call *c)
 {
     static const struct { enum function function; int share; } shares[] = {
-        {CHECK, 240}, {PROPOSE, 160}, {KEEP, 235}, {FETCH, 110}, {FORGET, 47}, {CLEAR, 8}, {READ, 80}, {WRITE, 120},
+        {CHECK, 240}, {PROPOSE, 160}, {KEEP, 235}, {FETCH, 110}, {FORGET, 42}, {CLEAR, 4}, {READ, 85}, {WRITE, 124},
     };
     for (size_t i = 0; !begun && i < sizeof noise / sizeof *noise; i++)
         noise[i] = random_next(r);

@@ -184,14 +184,14 @@ void draft_make(struct random *r, struct draft *d)
 {
     int64_t kind = random_below(r, 100), links, terms;
     draw_header(r, &d->job);
-    if (kind < 3) {
+    if (kind < 4) {
         extreme_residual(r, d);
-    } else if (kind == 3) {
+    } else if (kind == 4) {
         extreme_gap(r, d);
     } else {
         if (kind < 18)
             extreme_pivots(r, &d->job);
-        else if (kind > 96)
+        else if (kind > 92)
             extreme_halves(r, &d->job);
         else
             draw_cells(r, &d->job);
@@ -200,7 +200,7 @@ void draft_make(struct random *r, struct draft *d)
             extreme_loss(r, d);
         draw_counts(r, &d->job, &links, &terms);
         draw_links(r, d, links, terms);
-        if (kind <= 96)
+        if (kind >= 18 && kind <= 92)
             close_boxes(r, d, kind == 18 || random_chance(r, 50) ? 100 : random_chance(r, 50) ? 90 : 20);
     }
     settle_tolerance(r, d);
@@ -253,6 +253,8 @@ static void break_link(struct random *r, struct draft *d, int way)
         link->coefficient[t] = 0;
     if (way == 5 && t > 0)
         link->cell[t] = random_chance(r, 50) ? link->cell[t - 1] : random_below(r, link->cell[t - 1] + 1);
+    if (way == 5 && random_chance(r, 30))
+        link->coefficient[t] = random_chance(r, 50) ? 11 : -11;
     if (way == 6)
         link->bound = sum_of(link, &d->table) - (random_chance(r, 60) ? 1 : random_between(r, 1, 100000));
 }

@@ -24,10 +24,10 @@ void extreme_residual(struct random *r, struct draft *d)
         job->hi[i] = MOST_VALUE - random_below(r, 3);
     }
     job->links = 0;
-    add_link(d, cell, 10 * sign, 10 * sign * level, 200000000 - random_chance(r, 30));
-    if (random_chance(r, 60))
+    add_link(d, cell, 10 * sign, 10 * sign * level, 200000000 - random_chance(r, 20));
+    if (random_chance(r, 40))
         add_link(d, cell, sign, sign * level, random_between(r, 0, 11));
-    if (random_chance(r, 30))
+    if (random_chance(r, 20))
         add_link(d, cell, -sign, -sign * level, random_between(r, 0, 11));
 }
 
@@ -69,17 +69,16 @@ void extreme_loss(struct random *r, struct draft *d)
     }
 }
 
-/* The weights stand in the first cells alone, or scattered; between them a value hangs on differences only. */
+/* The weights stand in the first cells alone, which makes pivots too small, or far apart: between them a value hangs on differences only. */
 void extreme_pivots(struct random *r, struct twin_job *job)
 {
-    bool scattered = random_chance(r, 40);
-    int64_t positive = 0, scale = random_chance(r, 50) ? 1000 : MOST_VALUE;
-    job->cells = random_chance(r, 30) ? random_between(r, 60, 120) : random_between(r, 6, 40);
-    job->order_field = job->order = random_between(r, 1, 4);
-    job->constant = random_between(r, 100, 1000);
+    int64_t apart = random_chance(r, 50) ? random_between(r, 8, 40) : MOST_CELLS, positive = 0;
+    job->cells = random_chance(r, 60) ? random_between(r, 60, 120) : random_between(r, 6, 40);
+    job->order_field = job->order = random_chance(r, 60) ? 4 : random_between(r, 1, 4);
+    job->constant = random_chance(r, 60) ? 1000 : random_between(r, 100, 1000);
     for (int64_t i = 0; i < job->cells; i++) {
-        job->u[i] = scattered ? random_between(r, scale / 3, scale / 3 * 2) : random_below(r, scale);
-        job->w[i] = random_chance(r, scattered ? 12 : 0) ? random_between(r, 1, 3) : 0;
+        job->u[i] = random_between(r, MOST_VALUE / 3, MOST_VALUE / 3 * 2);
+        job->w[i] = i % apart == 0 || (apart < MOST_CELLS && i == job->cells - 1) ? random_between(r, 1, 3) : 0;
         job->lo[i] = 0;
         job->hi[i] = MOST_VALUE;
         positive += job->w[i] > 0;
@@ -91,16 +90,38 @@ void extreme_pivots(struct random *r, struct twin_job *job)
         }
 }
 
-/* Two cells whose factor is exact in f64 more often than not. */
-void extreme_halves(struct random *r, struct twin_job *job)
+/* Few cells with small weights and a small constant: the exact values are fractions with small denominators. */
+static void small_fractions(struct random *r, struct twin_job *job)
 {
-    job->cells = 2;
-    job->order_field = job->order = 1;
-    job->constant = 1 << random_below(r, 4);
+    job->cells = random_between(r, 2, 5);
+    job->order_field = job->order = random_between(r, 1, job->cells > 3 ? 3 : job->cells - 1);
+    job->constant = random_between(r, 1, 8);
     for (int64_t i = 0; i < job->cells; i++) {
         job->u[i] = random_below(r, 1000);
-        job->w[i] = 1 << random_below(r, 4);
+        job->w[i] = random_between(r, 1, 12);
+    }
+}
+
+/* Every other cell has a weight, and those lie on a line: the line is the exact answer, and it passes the other cells at a half. */
+static void on_a_line(struct random *r, struct twin_job *job)
+{
+    int64_t start = random_below(r, 400000), slope = 2 * random_below(r, 2000) + 1, most = random_chance(r, 50) ? 3 : 1000;
+    job->order_field = job->order = random_between(r, 2, 4);
+    job->cells = random_between(r, 2 * job->order, random_chance(r, 50) ? 20 : 110);
+    for (int64_t i = 0; i < job->cells; i++) {
+        job->u[i] = i % 2 == 0 ? start + slope * i / 2 : random_below(r, 1000);
+        job->w[i] = i % 2 == 0 ? random_between(r, 1, most) : 0;
+    }
+}
+
+void extreme_halves(struct random *r, struct twin_job *job)
+{
+    if (random_chance(r, 50))
+        small_fractions(r, job);
+    else
+        on_a_line(r, job);
+    for (int64_t i = 0; i < job->cells; i++) {
         job->lo[i] = 0;
-        job->hi[i] = 1000;
+        job->hi[i] = MOST_VALUE;
     }
 }

@@ -16,7 +16,7 @@ void extreme_loss(struct random *r, struct draft *draft);
 /* Few weights in a long table: the house proposal's pivots are small, or too small, and its values feel every rounding. */
 void extreme_pivots(struct random *r, struct twin_job *job);
 
-/* Values of the house proposal that are often half a unit off a whole one. */
+/* Values of the house proposal that are half a unit off a whole one, or would be if nothing were rounded. */
 void extreme_halves(struct random *r, struct twin_job *job);
 
 #endif

@@ -54,7 +54,7 @@
  *   - No pointer is null, even where the count is 0: pass any valid address.
  *   - Each count is true, and each pointer is aligned for its elements.
  *   - No two slices of one call overlap, unless the call only reads both. A pointer to const is only read.
- *   - About 40 KB of stack are free: a call puts its working room there.
+ *   - BENCH_STACK_BYTES of stack are free: a call puts its working room there. bench_keep uses most, about 40 KB.
  *
  * Calls may run at the same time on several threads as long as no slice that one of them writes is lent to another. Calls on different
  * shelves are independent.
@@ -87,6 +87,8 @@ extern "C" {
 /* Lengths that must be met exactly. */
 #define BENCH_ANSWER_WORDS 4   /* 64-bit words of an answer slice */
 #define BENCH_SHELF_WORDS 4032 /* 32-bit words of a shelf: 8 societies of 4 slots of 126 */
+
+#define BENCH_STACK_BYTES 49152 /* no call needs more stack than this */
 
 /* The most that a job can have. */
 #define BENCH_MOST_CELLS 120

@@ -1,5 +1,6 @@
 /* How long each call of the bench takes beside the twin's, and how much stack it uses. Both sides run in turns in one program, on the same input;
- * the median of the rounds counts. The argument says where it runs. */
+ * the median of the rounds counts. The argument says where it runs. With the argument `stack` it measures the stack alone, and ends with 1 if
+ * a call uses more than include/bench.h says. */
 #define _DEFAULT_SOURCE
 #include "../include/bench.h"
 #include "boundary/calls.h"
@@ -97,10 +98,11 @@ static void use_full(int64_t order)
     use_draft();
 }
 
+/* The processor's time, so that other programs on the machine count less. */
 static double now(void)
 {
     struct timespec t;
-    clock_gettime(CLOCK_MONOTONIC, &t);
+    clock_gettime(CLOCK_PROCESS_CPUTIME_ID, &t);
     return (double)t.tv_sec * 1e9 + (double)t.tv_nsec;
 }
 
@@ -118,19 +120,29 @@ static int by_size(const void *a, const void *b)
     return (x > y) - (x < y);
 }
 
-static void medians(enum function function, double median[SIDES])
+static double median_of(double *times)
 {
-    double times[SIDES][ROUNDS];
+    qsort(times, ROUNDS, sizeof *times, by_size);
+    return times[ROUNDS / 2];
+}
+
+struct timing {
+    double bench, twin, ratio;
+};
+
+static struct timing time_both(enum function function)
+{
+    double times[SIDES][ROUNDS], ratios[ROUNDS];
     int calls = 1;
     while (calls < 1 << 20 && time_of(1, function, calls) * calls < 2e6)
         calls *= 2;
-    for (int round = 0; round < ROUNDS; round++)
-        for (int side = 0; side < SIDES; side++)
-            times[(side + round) % 2][round] = time_of((side + round) % 2, function, calls);
-    for (int side = 0; side < SIDES; side++) {
-        qsort(times[side], ROUNDS, sizeof(double), by_size);
-        median[side] = times[side][ROUNDS / 2];
+    for (int round = 0; round < ROUNDS; round++) {
+        for (int turn = 0; turn < SIDES; turn++)
+            times[(turn + round) % SIDES][round] = time_of((turn + round) % SIDES, function, calls);
+        ratios[round] = times[0][round] / times[1][round];
     }
+    struct timing timing = {median_of(times[0]), median_of(times[1]), median_of(ratios)};
+    return timing;
 }
 
 /* The call that runs on the painted stack: none if `function` is FUNCTIONS. */
@@ -163,41 +175,54 @@ static size_t stack_of(int side, enum function function)
     return sizeof stack - clean;
 }
 
-static void measure(const char *input)
+/* Both sides must do the same work, or their times cannot be compared. */
+static void same_work(enum function function, const char *input)
+{
+    put_back();
+    uint64_t said = on_bench(function);
+    put_back();
+    if (said != on_twin(function) || said % 32 != 0) {
+        printf("FAILED  %s on %s: the bench and its twin answer differently, or refuse\n", call_names[function], input);
+        exit(1);
+    }
+    put_back();
+}
+
+static bool measure(const char *input, bool stack_alone)
 {
     size_t none = stack_of(0, FUNCTIONS);
+    bool within = true;
     for (int f = 0; f < FUNCTIONS; f++) {
-        double median[SIDES];
-        size_t stack[SIDES];
         enum function function = (enum function)f;
+        struct timing timing = {0, 0, 0};
+        same_work(function, input);
+        if (!stack_alone)
+            timing = time_both(function);
         put_back();
-        uint64_t said = on_bench(function);
+        size_t bench = stack_of(0, function) - none;
         put_back();
-        if (said != on_twin(function) || said % 32 != 0) {
-            printf("FAILED  %s on %s: the bench and its twin answer differently, or refuse\n", call_names[f], input);
-            exit(1);
-        }
+        size_t twin = stack_of(1, function) - none;
         put_back();
-        medians(function, median);
-        for (int side = 0; side < SIDES; side++) {
-            put_back();
-            stack[side] = stack_of(side, function) - none;
-        }
-        put_back();
-        printf("%-9s%-16s%12.0f%12.0f%8.2f%12zu%12zu\n", call_names[f], input, median[0], median[1], median[0] / median[1], stack[0], stack[1]);
+        within = within && bench <= BENCH_STACK_BYTES;
+        printf("%-9s%-16s%12.0f%12.0f%8.2f%12zu%12zu\n", call_names[f], input, timing.bench, timing.twin, timing.ratio, bench, twin);
     }
+    return within;
 }
 
 int main(int argc, char **argv)
 {
+    bool stack_alone = argc > 1 && strcmp(argv[1], "stack") == 0, within = true;
     printf("%s\n", argc > 1 ? argv[1] : "somewhere");
-    printf("Times in nanoseconds a call, the median of %d rounds in turns; stack in bytes. forget includes putting its table back.\n", ROUNDS);
+    printf("Processor time in nanoseconds a call, the median of %d rounds in turns; stack in bytes. forget includes putting its table back.\n",
+           ROUNDS);
     printf("%-9s%-16s%12s%12s%8s%12s%12s\n", "call", "input", "bench", "twin", "ratio", "stack", "twin's");
     use_full(4);
-    measure("full, order 4");
+    within = measure("full, order 4", stack_alone) && within;
     use_full(2);
-    measure("full, order 2");
+    within = measure("full, order 2", stack_alone) && within;
     use_small();
-    measure("n 3");
-    return 0;
+    within = measure("n 3", stack_alone) && within;
+    if (!within)
+        printf("FAILED  a call uses more than %d bytes of stack\n", BENCH_STACK_BYTES);
+    return within ? 0 : 1;
 }

@@ -31,8 +31,9 @@ cc_x86() {
   if on_x86; then gcc "$@"; else x86_64-linux-gnu-gcc "$@"; fi
 }
 
+# Without erms: the emulator is slow at the string instructions that the C library would use for copying if it had them.
 run_x86() {
-  if on_x86; then "$@"; else qemu-x86_64 -L /usr/x86_64-linux-gnu "$@"; fi
+  if on_x86; then "$@"; else qemu-x86_64 -cpu max,-erms -L /usr/x86_64-linux-gnu "$@"; fi
 }
 
 # make_archive: says in `archive` where the library's archive is: BENCH_ARCHIVE if that is set, else what the prover writes.

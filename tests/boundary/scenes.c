@@ -34,10 +34,12 @@ static void lend_answer(struct random *r, struct call *c)
     lend(c, some_noise(r), count, sizeof(uint64_t), true);
 }
 
-static void lend_shelf(struct random *r, struct call *c, bool writable)
+/* Clear, which is seldom called, gets a wrong shelf more often. */
+static void lend_shelf(struct random *r, struct call *c)
 {
     static const size_t odd[] = {0, 504, SHELF_WORDS - 1, SHELF_WORDS + 1};
-    lend(c, shelf, random_chance(r, 3) ? odd[random_below(r, 4)] : SHELF_WORDS, sizeof *shelf, writable);
+    size_t count = random_chance(r, c->function == CLEAR ? 30 : 3) ? odd[random_below(r, 4)] : SHELF_WORDS;
+    lend(c, shelf, count, sizeof *shelf, c->function != FETCH);
 }
 
 /* An output where `needed` elements would be written (0: the call is refused before). */
@@ -174,7 +176,7 @@ static void pack_call(struct random *r, struct call *c)
 /* Keep, fetch, forget and clear. */
 static void shelf_call(struct random *r, struct call *c)
 {
-    lend_shelf(r, c, c->function != FETCH);
+    lend_shelf(r, c);
     draw_key(r, c);
     if (c->function == KEEP) {
         draw_job(r);
@@ -190,7 +192,7 @@ static void shelf_call(struct random *r, struct call *c)
 void scene_call(struct random *r, struct call *c)
 {
     static const struct { enum function function; int share; } shares[] = {
-        {CHECK, 240}, {PROPOSE, 160}, {KEEP, 235}, {FETCH, 110}, {FORGET, 42}, {CLEAR, 4}, {READ, 85}, {WRITE, 124},
+        {CHECK, 240}, {PROPOSE, 160}, {KEEP, 235}, {FETCH, 110}, {FORGET, 42}, {CLEAR, 6}, {READ, 85}, {WRITE, 122},
     };
     for (size_t i = 0; !begun && i < sizeof noise / sizeof *noise; i++)
         noise[i] = random_next(r);

@@ -31,15 +31,15 @@ for part in differential scenes calls drafts extremes numbers lent; do
   gcc $flags -Wall -Wextra -Werror -c tests/boundary/$part.c -o "$out/$part.o" || exit 1
 done
 
-# try FILE WHAT EDIT: the differential test must end with 1 and name a mismatch.
+# try FILE WHAT EDIT [end|start]: the differential test must end with 1 and name a mismatch.
 try() {
-  local part=${1%.c} what=$2 edit=$3 slip=$out/copy/slip.c objects=
+  local part=${1%.c} what=$2 edit=$3 lie=$4 slip=$out/copy/slip.c objects=
   sed "$edit" "tests/twin/$1" >"$out/slip.txt"
   if cmp -s "$out/slip.txt" "tests/twin/$1"; then bad "$what: its edit changes nothing in $1"; return; fi
   as_bench "$out/slip.txt" "$slip"
   for p in $parts; do [ "$p" = "$part" ] || objects="$objects $out/whole/$p.o"; done
   if ! gcc $flags -w "$slip" $objects "$out"/*.o -o "$out/slipped"; then bad "$what: does not compile"; return; fi
-  "$out/slipped" 1 $CALLS >"$out/log" 2>&1
+  "$out/slipped" 1 $CALLS $lie >"$out/log" 2>&1
   local status=$?
   if [ $status = 1 ] && grep -q '^MISMATCH' "$out/log"; then
     good
@@ -55,8 +55,9 @@ if "$out/twins" 1 60000 >"$out/log" 2>&1; then good; else bad "the twin differs 
 
 while IFS='|' read -r file what edit; do
   case $file in '' | '#'*) continue ;; esac
-  file=${file// /} what=${what# } what=${what% } edit=${edit# }
-  try "$file" "$what" "$edit"
+  read -r file lie <<<"$file"
+  what=${what# } what=${what% } edit=${edit# }
+  try "$file" "$what" "$edit" "$lie"
 done <tests/boundary/slips
 
 echo "$passed passed, $failed failed"

@@ -88,7 +88,8 @@ extern "C" {
 #define BENCH_ANSWER_WORDS 4   /* 64-bit words of an answer slice */
 #define BENCH_SHELF_WORDS 4032 /* 32-bit words of a shelf: 8 societies of 4 slots of 126 */
 
-#define BENCH_STACK_BYTES 49152 /* no call needs more stack than this */
+/* No call needs more stack than this. */
+#define BENCH_STACK_BYTES 49152
 
 /* The most that a job can have. */
 #define BENCH_MOST_CELLS 120
@@ -96,12 +97,12 @@ extern "C" {
 #define BENCH_MOST_TERMS 4
 #define BENCH_MOST_SOCIETY 7 /* societies are numbered from 0 */
 
-/* An output of this many elements is never too short. The first three are reached by the largest job. */
-#define BENCH_MOST_JOB_BYTES 3580      /* bench_write; no longer job pack is ever accepted */
-#define BENCH_MOST_PROPOSAL_BYTES 1160 /* no longer proposal pack is ever accepted */
-#define BENCH_MOST_JOB_WORDS 2087      /* bench_read; no longer list is ever written */
-#define BENCH_MOST_HOUSE_BYTES 520     /* bench_propose: its multipliers are all 0 */
-#define BENCH_MOST_VALUES 120          /* bench_fetch */
+/* The longest packs and lists: nothing longer is ever accepted, and an output of that length is never too short. */
+#define BENCH_MOST_JOB_BYTES 3580      /* a job pack: the output of bench_write */
+#define BENCH_MOST_JOB_WORDS 2087      /* a job's numbers: the output of bench_read */
+#define BENCH_MOST_PROPOSAL_BYTES 1160 /* a proposal pack */
+#define BENCH_MOST_HOUSE_BYTES 520     /* a house proposal, whose multipliers are all 0: the output of bench_propose */
+#define BENCH_MOST_VALUES 120          /* a table's values: the output of bench_fetch */
 
 /* The numbers of the table above. */
 enum bench_number {

@@ -9,6 +9,8 @@
 
 const char *const call_names[FUNCTIONS] = {"check", "propose", "keep", "fetch", "forget", "clear", "read", "write"};
 
+static const uint64_t NOT_RETURNED = UINT64_MAX;
+
 static uint64_t on_bench(const struct call *c, void *const *p)
 {
     const struct slice *s = c->slice;
@@ -71,12 +73,14 @@ static bool answer_agrees(const struct call *c, int side, uint64_t said)
 const char *call_both(const struct call *c, uint64_t said[SIDES])
 {
     const char *wrong = NULL;
+    void *p[SIDES][MOST_SLICES] = {{0}};
     for (int side = 0; side < SIDES; side++) {
-        void *p[MOST_SLICES] = {0};
+        said[side] = NOT_RETURNED;
         for (int i = 0; i < c->slices; i++)
-            p[i] = lent_lay(side, i, &c->slice[i]);
-        said[side] = side == 0 ? on_bench(c, p) : on_twin(c, p);
+            p[side][i] = lent_lay(side, i, &c->slice[i]);
     }
+    said[0] = on_bench(c, p[0]);
+    said[1] = on_twin(c, p[1]);
     for (int i = 0; i < c->slices && !wrong; i++)
         wrong = compare_slice(c, i, said);
     for (int side = 0; side < SIDES && !wrong; side++)
@@ -85,13 +89,14 @@ const char *call_both(const struct call *c, uint64_t said[SIDES])
     return said[0] != said[1] ? "the returned numbers differ" : wrong;
 }
 
-static void print_slice(const struct call *c, int index)
+/* A slice as it was before, if `whole`, and the bytes in which the two sides differ now. */
+static void print_slice(const struct call *c, int index, bool whole)
 {
     const struct slice *s = &c->slice[index];
     const uint8_t *before = s->content, *bench = lent_at(0, index, s), *twin = lent_at(1, index, s);
     size_t bytes = s->count * s->width;
     printf("  slice %d, %zu elements of %zu bytes%s:", index, s->count, s->width, s->writable ? ", lent to write" : "");
-    if (!s->writable)
+    if (whole)
         for (size_t i = 0; i < bytes; i++)
             printf(" %02X", before[i]);
     for (size_t i = 0, told = 0; i < bytes && told < 16; i++)
@@ -111,20 +116,28 @@ static void print_shelf(const struct slice *s)
     printf("\n");
 }
 
+static void print_answer(const struct call *c, int side, uint64_t said)
+{
+    const struct slice *s = &c->slice[c->slices - 1];
+    const uint64_t *answer = lent_at(side, c->slices - 1, s);
+    printf("  %s ", side == 0 ? "bench" : "twin ");
+    if (said == NOT_RETURNED)
+        printf("has not returned; answer");
+    else
+        printf("returned number %" PRIu64 ", place %" PRIu64 "; answer", BENCH_NUMBER(said), BENCH_PLACE(said));
+    for (size_t i = 0; i < s->count; i++)
+        printf(" %" PRIu64, answer[i]);
+    printf("\n");
+}
+
 void call_report(const struct call *c, const uint64_t said[SIDES])
 {
+    bool has_shelf = c->function >= KEEP && c->function <= CLEAR;
     printf("  %s, society %" PRIu32 ", job %" PRIu32 "\n", call_names[c->function], c->society, c->job);
-    for (int side = 0; side < SIDES; side++) {
-        const struct slice *s = &c->slice[c->slices - 1];
-        const uint64_t *answer = lent_at(side, c->slices - 1, s);
-        printf("  %s returned number %" PRIu64 ", place %" PRIu64 "; answer", side == 0 ? "bench" : "twin ",
-               BENCH_NUMBER(said[side]), BENCH_PLACE(said[side]));
-        for (size_t i = 0; i < s->count; i++)
-            printf(" %" PRIu64, answer[i]);
-        printf("\n");
-    }
-    if (c->function >= KEEP && c->function <= CLEAR)
+    for (int side = 0; side < SIDES; side++)
+        print_answer(c, side, said[side]);
+    if (has_shelf)
         print_shelf(&c->slice[0]);
     for (int i = 0; i < c->slices; i++)
-        print_slice(c, i);
+        print_slice(c, i, !c->slice[i].writable && !(has_shelf && i == 0));
 }

@@ -90,7 +90,6 @@ static int run(uint64_t count)
     for (uint64_t i = 0; i < count; i++) {
         number_of_call = i;
         scene_call(&random, &call);
-        said[0] = said[1] = UINT64_MAX;
         const char *wrong = call_both(&call, said);
         if (!wrong && said[0] % 32 >= NUMBERS)
             wrong = "a number above 13";

@@ -16,3 +16,30 @@ need_prover() {
   echo "rt, the Rattle toolchain's command, is not on the PATH: the proofs cannot be checked without it" >&2
   exit 1
 }
+
+# The library's archive is for x86-64. There C is compiled and run as it is; elsewhere with a cross compiler and an emulator.
+on_x86() { [ "$(uname -m)" = x86_64 ]; }
+
+need_c() {
+  need gcc gcc
+  on_x86 && return 0
+  need x86_64-linux-gnu-gcc gcc-x86-64-linux-gnu
+  need qemu-x86_64 qemu-user
+}
+
+cc_x86() {
+  if on_x86; then gcc "$@"; else x86_64-linux-gnu-gcc "$@"; fi
+}
+
+# Without erms: the emulator is slow at the string instructions that the C library would use for copying if it had them.
+run_x86() {
+  if on_x86; then "$@"; else qemu-x86_64 -cpu max,-erms -L /usr/x86_64-linux-gnu "$@"; fi
+}
+
+# make_archive: says in `archive` where the library's archive is: BENCH_ARCHIVE if that is set, else what the prover writes.
+make_archive() {
+  archive=${BENCH_ARCHIVE:-target/staticlib/libbench.a}
+  [ -n "${BENCH_ARCHIVE:-}" ] && return 0
+  need_prover
+  rt staticlib bench
+}

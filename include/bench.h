@@ -1,0 +1,175 @@
+/* bench.h: the bench, for the portal and any other C or C++ program.
+ *
+ * The bench reads a job (one society's table to be graduated), checks a proposed table with its multipliers, makes a proposal of its own,
+ * and keeps accepted tables on a shelf that the caller lends. Document 01 has the rules; this page has what a caller needs.
+ *
+ * WHAT EVERY CALL DOES
+ *
+ * A slice is a pointer and then a count of its elements (bytes, 32-bit words or 64-bit words; never bytes for words). The last slice of each
+ * call takes the answer: exactly BENCH_ANSWER_WORDS words, which become
+ *
+ *     answer[0] number    answer[1] place    answer[2] loss F    answer[3] gap G
+ *
+ * Every call returns 32 times the place plus the number; BENCH_NUMBER and BENCH_PLACE take the two apart. Check, keep and fetch give the
+ * table's F and G when done; they are 0 with every refusal and at every other call.
+ *
+ * A refusal (any number but 0) changes nothing that was lent, the answer slice excepted. A success leaves an output beyond what it writes
+ * as it was. No call reads or writes anything but its slices; none allocates, prints, waits, keeps a pointer or has a state of its own.
+ * Every call ends, for every input.
+ *
+ * THE NUMBERS
+ *
+ *     No.  given when                                              place
+ *     0    done                                                    bytes, values or numbers written to an output; else 0
+ *     1    job pack: number unreadable, or spare bytes             offset of its first byte, or of the first spare byte
+ *     2    job pack: number not allowed                            offset of its first byte
+ *     3    floor above ceiling                                     cell
+ *     4    fewer positive weights than the order used              0
+ *     5    cells of a link not rising, or coefficient 0            link
+ *     6    proposal pack: unreadable, spare bytes, not allowed     offset, as for 1 and 2
+ *     7    value outside its box                                   lowest such cell
+ *     8    link broken                                             lowest such link
+ *     9    gap above the tolerance                                 0
+ *     10   house proposal: data too thin                           cell
+ *     11   fetch or forget: society above 7                        0
+ *     12   fetch or forget: nothing kept under that number         0
+ *     13   answer slice not 4 words, shelf not 4,032,              4, 4,032, or
+ *          or output too short                                     the length needed, in the output's own elements
+ *
+ * The first that applies is given, in this order: answer slice, shelf length; then the job pack from its first byte to its last (1 and 2
+ * for each number, 3 after each ceiling, 4 after the last cell, 5 after each term, spare bytes last); then 6, 7, 8, 9, or 10; for fetch and
+ * forget 11, then 12; and the output's length last. A wrong answer slice is not written to: only the returned number tells it.
+ *
+ * PACKS
+ *
+ * A number is groups of seven bits, lowest group first, the top bit of a byte set if another follows; only the shortest form is read, at
+ * most nine groups. A coefficient or bound x is stored as 2x if x >= 0 and as -2x-1 if not.
+ *
+ *     job pack       society, job, n, order field, k, T; for each cell u, w, floor, ceiling; the count of links;
+ *                    for each link the count of terms, its terms (cell, coefficient), the bound
+ *     proposal pack  n values, then one multiplier for each link
+ *
+ * WHAT NOBODY CHECKS FOR A C CALLER
+ *
+ *   - No pointer is null, even where the count is 0: pass any valid address.
+ *   - Each count is true, and each pointer is aligned for its elements.
+ *   - No two slices of one call overlap, unless the call only reads both. A pointer to const is only read.
+ *   - BENCH_STACK_BYTES of stack are free: a call puts its working room there. bench_keep uses most, about 40 KB.
+ *
+ * Calls may run at the same time on several threads as long as no slice that one of them writes is lent to another. Calls on different
+ * shelves are independent.
+ *
+ * AN EXAMPLE (it prints: number 0, place 0, loss 28, gap 0)
+ *
+ *     --- example begins ---
+ *     #include <inttypes.h>
+ *     #include <stdio.h>
+ *     #include "bench.h"
+ *     int main(void) {
+ *         const uint8_t job[] = {3, 7, 3, 2, 1, 0, 0, 1, 0, 100, 7, 1, 0, 100, 0, 1, 0, 100, 0}, proposal[] = {2, 3, 2};
+ *         uint64_t a[BENCH_ANSWER_WORDS];
+ *         uint64_t said = bench_check(job, sizeof job, proposal, sizeof proposal, a, BENCH_ANSWER_WORDS);
+ *         printf("number %" PRIu64 ", place %" PRIu64 ", loss %" PRIu64 ", gap %" PRIu64 "\n", a[0], a[1], a[2], a[3]);
+ *         return said == 0 ? 0 : 1;
+ *     }
+ *     --- example ends ---
+ */
+#ifndef BENCH_H
+#define BENCH_H
+
+#include <stddef.h>
+#include <stdint.h>
+
+#ifdef __cplusplus
+extern "C" {
+#endif
+
+/* Lengths that must be met exactly. */
+#define BENCH_ANSWER_WORDS 4   /* 64-bit words of an answer slice */
+#define BENCH_SHELF_WORDS 4032 /* 32-bit words of a shelf: 8 societies of 4 slots of 126 */
+
+/* No call needs more stack than this. */
+#define BENCH_STACK_BYTES 49152
+
+/* The most that a job can have. */
+#define BENCH_MOST_CELLS 120
+#define BENCH_MOST_LINKS 160
+#define BENCH_MOST_TERMS 4
+#define BENCH_MOST_SOCIETY 7 /* societies are numbered from 0 */
+
+/* The longest packs and lists: nothing longer is ever accepted, and an output of that length is never too short. */
+#define BENCH_MOST_JOB_BYTES 3580      /* a job pack: the output of bench_write */
+#define BENCH_MOST_JOB_WORDS 2087      /* a job's numbers: the output of bench_read */
+#define BENCH_MOST_PROPOSAL_BYTES 1160 /* a proposal pack */
+#define BENCH_MOST_HOUSE_BYTES 520     /* a house proposal, whose multipliers are all 0: the output of bench_propose */
+#define BENCH_MOST_VALUES 120          /* a table's values: the output of bench_fetch */
+
+/* The numbers of the table above. */
+enum bench_number {
+    BENCH_DONE = 0,
+    BENCH_UNREADABLE = 1,
+    BENCH_NOT_ALLOWED = 2,
+    BENCH_FLOOR_ABOVE_CEILING = 3,
+    BENCH_FEW_WEIGHTS = 4,
+    BENCH_BAD_LINK = 5,
+    BENCH_BAD_PROPOSAL = 6,
+    BENCH_OUTSIDE_BOX = 7,
+    BENCH_LINK_BROKEN = 8,
+    BENCH_GAP_ABOVE_TOLERANCE = 9,
+    BENCH_TOO_THIN = 10,
+    BENCH_NO_SUCH_SOCIETY = 11,
+    BENCH_NOTHING_KEPT = 12,
+    BENCH_WRONG_LENGTH = 13
+};
+
+/* The number and the place of what a call returned. */
+#define BENCH_NUMBER(said) ((said) % 32)
+#define BENCH_PLACE(said) ((said) / 32)
+
+/* Checks a proposal against a job. Done: the table meets every box and link and its gap is at most the job's tolerance; the answer has its
+ * loss F and gap G, and no table that meets the job, fractional ones included, has a loss below F - G. Place 0. Writes nothing but the
+ * answer. Numbers: 0 to 9, 13. */
+uint64_t bench_check(const uint8_t *job, size_t job_bytes, const uint8_t *proposal, size_t proposal_bytes,
+                     uint64_t *answer, size_t answer_words);
+
+/* Makes the house proposal for a job and writes it to `out` as a proposal pack, all multipliers 0. Done: the place is the pack's bytes. It
+ * ignores links and has no privilege: the check may refuse it. Numbers: 0 to 5, 10, 13. */
+uint64_t bench_propose(const uint8_t *job, size_t job_bytes, uint8_t *out, size_t out_bytes,
+                       uint64_t *answer, size_t answer_words);
+
+/* Checks as bench_check does and, if it accepts, keeps the table on the shelf among its society's four: in the slot that has the job
+ * already, else in the lowest empty one, else the oldest goes. Done: F and G as in the check, place 0. It never reads or writes another
+ * society's words. A shelf may hold any words, but only one that was cleared first holds lists that mean something. Numbers: 0 to 9, 13. */
+uint64_t bench_keep(uint32_t *shelf, size_t shelf_words, const uint8_t *job, size_t job_bytes,
+                    const uint8_t *proposal, size_t proposal_bytes, uint64_t *answer, size_t answer_words);
+
+/* Copies to `out` the values that a society keeps under a job number. Done: the place is the count of values n, F and G are those that the
+ * table was kept with, and words of `out` beyond n stay as they were. Never writes to the shelf. Numbers: 0, 11, 12, 13. */
+uint64_t bench_fetch(const uint32_t *shelf, size_t shelf_words, uint32_t society, uint32_t job,
+                     uint32_t *out, size_t out_words, uint64_t *answer, size_t answer_words);
+
+/* Removes the table that a society keeps under a job number; its later tables move down by one slot. Done: place 0. Numbers: 0, 11, 12,
+ * 13. */
+uint64_t bench_forget(uint32_t *shelf, size_t shelf_words, uint32_t society, uint32_t job,
+                      uint64_t *answer, size_t answer_words);
+
+/* Empties the whole shelf, every society's part: every word becomes 0. It is the house's own call and the way to begin. Done: place 0.
+ * Numbers: 0, 13. */
+uint64_t bench_clear(uint32_t *shelf, size_t shelf_words, uint64_t *answer, size_t answer_words);
+
+/* Reads a job pack into its numbers, in pack order, coefficients and bounds with their signs. Done: the place is the count of numbers. An
+ * order field 0 (the house order 2) stays 0. Numbers: 0 to 5, 13. */
+uint64_t bench_read(const uint8_t *job, size_t job_bytes, int64_t *words, size_t word_count,
+                    uint64_t *answer, size_t answer_words);
+
+/* Writes a job's numbers, in pack order, to `out` as a job pack. Done: the place is the pack's bytes, and bench_read gives the numbers back.
+ * It refuses with the number and place that reading the pack would give: a word out of range is 2, a list that ends early or runs on is 1,
+ * at the offset where the byte would stand. Numbers: 0 to 5, 13. */
+uint64_t bench_write(const int64_t *words, size_t word_count, uint8_t *out, size_t out_bytes,
+                     uint64_t *answer, size_t answer_words);
+
+#ifdef __cplusplus
+}
+#endif
+
+#endif

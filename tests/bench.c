@@ -1,0 +1,228 @@
+/* How long each call of the bench takes beside the twin's, and how much stack it uses. Both sides run in turns in one program, on the same input;
+ * the median of the rounds counts. The argument says where it runs. With the argument `stack` it measures the stack alone, and ends with 1 if
+ * a call uses more than include/bench.h says. */
+#define _DEFAULT_SOURCE
+#include "../include/bench.h"
+#include "boundary/calls.h"
+#include "boundary/numbers.h"
+#include "twin/twin.h"
+
+#include <stdio.h>
+#include <stdlib.h>
+#include <string.h>
+#include <time.h>
+#include <ucontext.h>
+
+enum { ROUNDS = 15, STACK_BYTES = 1 << 20, PAINT = 0xC5, SPAN = SLOTS * SLOT_WORDS };
+
+/* What all calls of one input work on. The shelf has the table, and `span` is its society's part of it. */
+static struct draft draft;
+static struct numbers list;
+static struct bytes job, proposal;
+static struct words words;
+static uint32_t shelf[SHELF_WORDS], span[SPAN], values[MOST_CELLS];
+static uint64_t answer[ANSWER_WORDS];
+static int64_t word_room[BENCH_MOST_JOB_WORDS];
+static uint8_t byte_room[BENCH_MOST_JOB_BYTES];
+
+/* forget finds its table put back before every call; the time of that is in both sides' time. */
+static void put_back(void)
+{
+    memcpy(shelf + SPAN * draft.job.society, span, sizeof span);
+}
+
+static uint64_t on_bench(enum function function)
+{
+    uint32_t society = (uint32_t)draft.job.society, number = (uint32_t)draft.job.number;
+    switch (function) {
+    case CHECK: return bench_check(job.at, job.count, proposal.at, proposal.count, answer, ANSWER_WORDS);
+    case PROPOSE: return bench_propose(job.at, job.count, byte_room, sizeof byte_room, answer, ANSWER_WORDS);
+    case KEEP: return bench_keep(shelf, SHELF_WORDS, job.at, job.count, proposal.at, proposal.count, answer, ANSWER_WORDS);
+    case FETCH: return bench_fetch(shelf, SHELF_WORDS, society, number, values, MOST_CELLS, answer, ANSWER_WORDS);
+    case FORGET: return put_back(), bench_forget(shelf, SHELF_WORDS, society, number, answer, ANSWER_WORDS);
+    case CLEAR: return bench_clear(shelf, SHELF_WORDS, answer, ANSWER_WORDS);
+    case READ: return bench_read(job.at, job.count, word_room, BENCH_MOST_JOB_WORDS, answer, ANSWER_WORDS);
+    default: return bench_write(words.at, words.count, byte_room, sizeof byte_room, answer, ANSWER_WORDS);
+    }
+}
+
+static uint64_t on_twin(enum function function)
+{
+    uint32_t society = (uint32_t)draft.job.society, number = (uint32_t)draft.job.number;
+    switch (function) {
+    case CHECK: return twin_check(job.at, job.count, proposal.at, proposal.count, answer, ANSWER_WORDS);
+    case PROPOSE: return twin_propose(job.at, job.count, byte_room, sizeof byte_room, answer, ANSWER_WORDS);
+    case KEEP: return twin_keep(shelf, SHELF_WORDS, job.at, job.count, proposal.at, proposal.count, answer, ANSWER_WORDS);
+    case FETCH: return twin_fetch(shelf, SHELF_WORDS, society, number, values, MOST_CELLS, answer, ANSWER_WORDS);
+    case FORGET: return put_back(), twin_forget(shelf, SHELF_WORDS, society, number, answer, ANSWER_WORDS);
+    case CLEAR: return twin_clear(shelf, SHELF_WORDS, answer, ANSWER_WORDS);
+    case READ: return twin_read(job.at, job.count, word_room, BENCH_MOST_JOB_WORDS, answer, ANSWER_WORDS);
+    default: return twin_write(words.at, words.count, byte_room, sizeof byte_room, answer, ANSWER_WORDS);
+    }
+}
+
+static uint64_t on_side(int side, enum function function)
+{
+    return side == 0 ? on_bench(function) : on_twin(function);
+}
+
+static void use_draft(void)
+{
+    numbers_of_job(&draft.job, &list);
+    numbers_pack(&list, &job);
+    numbers_words(&list, &words);
+    numbers_of_proposal(&draft, &list);
+    numbers_pack(&list, &proposal);
+    memset(shelf, 0, sizeof shelf);
+    if (on_twin(KEEP) != 0) {
+        printf("FAILED  the input is not accepted\n");
+        exit(1);
+    }
+    memcpy(span, shelf + SPAN * draft.job.society, sizeof span);
+}
+
+/* Document 01's worked example. */
+static void use_small(void)
+{
+    const uint8_t pack[] = {3, 7, 3, 2, 1, 0, 0, 1, 0, 100, 7, 1, 0, 100, 0, 1, 0, 100, 0};
+    const int64_t v[] = {2, 3, 2};
+    twin_read_job(pack, sizeof pack, &draft.job);
+    memcpy(draft.table.value, v, sizeof v);
+    use_draft();
+}
+
+static void use_full(int64_t order)
+{
+    struct random random = {(uint64_t)order};
+    draft_full(&random, order, &draft);
+    use_draft();
+}
+
+/* The processor's time, so that other programs on the machine count less. */
+static double now(void)
+{
+    struct timespec t;
+    clock_gettime(CLOCK_PROCESS_CPUTIME_ID, &t);
+    return (double)t.tv_sec * 1e9 + (double)t.tv_nsec;
+}
+
+static double time_of(int side, enum function function, int calls)
+{
+    double start = now();
+    for (int i = 0; i < calls; i++)
+        on_side(side, function);
+    return (now() - start) / calls;
+}
+
+static int by_size(const void *a, const void *b)
+{
+    double x = *(const double *)a, y = *(const double *)b;
+    return (x > y) - (x < y);
+}
+
+static double median_of(double *times)
+{
+    qsort(times, ROUNDS, sizeof *times, by_size);
+    return times[ROUNDS / 2];
+}
+
+struct timing {
+    double bench, twin, ratio;
+};
+
+static struct timing time_both(enum function function)
+{
+    double times[SIDES][ROUNDS], ratios[ROUNDS];
+    int calls = 1;
+    while (calls < 1 << 20 && time_of(1, function, calls) * calls < 2e6)
+        calls *= 2;
+    for (int round = 0; round < ROUNDS; round++) {
+        for (int turn = 0; turn < SIDES; turn++)
+            times[(turn + round) % SIDES][round] = time_of((turn + round) % SIDES, function, calls);
+        ratios[round] = times[0][round] / times[1][round];
+    }
+    struct timing timing = {median_of(times[0]), median_of(times[1]), median_of(ratios)};
+    return timing;
+}
+
+/* The call that runs on the painted stack: none if `function` is FUNCTIONS. */
+static ucontext_t back, there;
+static int painted_side;
+static enum function painted_function;
+
+static void painted(void)
+{
+    if (painted_function != FUNCTIONS)
+        on_side(painted_side, painted_function);
+}
+
+/* How far down a call has written on a stack that was painted before. */
+static size_t stack_of(int side, enum function function)
+{
+    static uint8_t stack[STACK_BYTES];
+    size_t clean = 0;
+    painted_side = side;
+    painted_function = function;
+    memset(stack, PAINT, sizeof stack);
+    getcontext(&there);
+    there.uc_stack.ss_sp = stack;
+    there.uc_stack.ss_size = sizeof stack;
+    there.uc_link = &back;
+    makecontext(&there, painted, 0);
+    swapcontext(&back, &there);
+    while (clean < sizeof stack && stack[clean] == PAINT)
+        clean++;
+    return sizeof stack - clean;
+}
+
+/* Both sides must do the same work, or their times cannot be compared. */
+static void same_work(enum function function, const char *input)
+{
+    put_back();
+    uint64_t said = on_bench(function);
+    put_back();
+    if (said != on_twin(function) || said % 32 != 0) {
+        printf("FAILED  %s on %s: the bench and its twin answer differently, or refuse\n", call_names[function], input);
+        exit(1);
+    }
+    put_back();
+}
+
+static bool measure(const char *input, bool stack_alone)
+{
+    size_t none = stack_of(0, FUNCTIONS);
+    bool within = true;
+    for (int f = 0; f < FUNCTIONS; f++) {
+        enum function function = (enum function)f;
+        struct timing timing = {0, 0, 0};
+        same_work(function, input);
+        if (!stack_alone)
+            timing = time_both(function);
+        put_back();
+        size_t bench = stack_of(0, function) - none;
+        put_back();
+        size_t twin = stack_of(1, function) - none;
+        put_back();
+        within = within && bench <= BENCH_STACK_BYTES;
+        printf("%-9s%-16s%12.0f%12.0f%8.2f%12zu%12zu\n", call_names[f], input, timing.bench, timing.twin, timing.ratio, bench, twin);
+    }
+    return within;
+}
+
+int main(int argc, char **argv)
+{
+    bool stack_alone = argc > 1 && strcmp(argv[1], "stack") == 0, within = true;
+    printf("%s\n", argc > 1 ? argv[1] : "somewhere");
+    printf("Processor time in nanoseconds a call, the median of %d rounds in turns; stack in bytes. forget includes putting its table back.\n",
+           ROUNDS);
+    printf("%-9s%-16s%12s%12s%8s%12s%12s\n", "call", "input", "bench", "twin", "ratio", "stack", "twin's");
+    use_full(4);
+    within = measure("full, order 4", stack_alone) && within;
+    use_full(2);
+    within = measure("full, order 2", stack_alone) && within;
+    use_small();
+    within = measure("n 3", stack_alone) && within;
+    if (!within)
+        printf("FAILED  a call uses more than %d bytes of stack\n", BENCH_STACK_BYTES);
+    return within ? 0 : 1;
+}

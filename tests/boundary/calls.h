@@ -1,0 +1,25 @@
+/* One call with its slices, made on both sides (the bench and the twin) with the same memory, and compared byte by byte. */
+#ifndef CALLS_H
+#define CALLS_H
+
+#include "lent.h"
+
+enum function { CHECK, PROPOSE, KEEP, FETCH, FORGET, CLEAR, READ, WRITE, FUNCTIONS };
+
+/* The slices stand in the order of the call's own; the last is the answer slice. */
+struct call {
+    enum function function;
+    int slices;
+    struct slice slice[MOST_SLICES];
+    uint32_t society, job;
+};
+
+extern const char *const call_names[FUNCTIONS];
+
+/* Makes the call on both sides. `said` gets what each returned; the answer is what differs or was touched, or a null pointer. */
+const char *call_both(const struct call *call, uint64_t said[SIDES]);
+
+/* Prints the call, what both sides answered, and every slice as it was before, for a person to make it again. */
+void call_report(const struct call *call, const uint64_t said[SIDES]);
+
+#endif

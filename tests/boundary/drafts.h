@@ -1,0 +1,22 @@
+/* Drafts: a job with a table that meets it, made at random; and breaking one rule of a draft. */
+#ifndef DRAFTS_H
+#define DRAFTS_H
+
+#include "../twin/parts.h"
+#include "random.h"
+
+struct draft {
+    struct twin_job job;
+    struct twin_table table;
+};
+
+/* A draft that the check accepts, or refuses with 9 alone. Its tolerance is often its gap, or one off. */
+void draft_make(struct random *r, struct draft *draft);
+
+/* The largest draft in every count: 120 cells, 160 links of 4 terms, accepted, of this order field. */
+void draft_full(struct random *r, int64_t order_field, struct draft *draft);
+
+/* Breaks one rule that is about more than one number: refusals 3, 4, 5, 7, 8 or 9, where the draft has room for it. */
+void draft_break(struct random *r, struct draft *draft);
+
+#endif

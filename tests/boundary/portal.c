@@ -1,0 +1,285 @@
+/* A caller as the portal is one: it knows bench.h and nothing else. It makes each call, reads each answer, and meets each refusal with the place
+ * that the table of numbers gives. */
+#include "bench.h"
+
+#include <stdio.h>
+#include <string.h>
+
+static int passed, failed;
+static uint64_t answer[BENCH_ANSWER_WORDS];
+static uint32_t shelf[BENCH_SHELF_WORDS];
+
+/* Three cells with crude rates 0 7 0, weights 1, boxes 0..100, order 2, constant 1, tolerance 0, no links: document 01's worked example. */
+static const uint8_t JOB[] = {3, 7, 3, 2, 1, 0, 0, 1, 0, 100, 7, 1, 0, 100, 0, 1, 0, 100, 0};
+static const uint8_t PROPOSAL[] = {2, 3, 2};
+
+/* The same with crude rates 0 5 0, tolerance 100, order field 0, and two links: -v0+v1 <= 0 and v2 <= 50. */
+static const uint8_t LINKED[] = {3, 7, 3, 0, 1, 100, 0, 1, 0, 100, 5, 1, 0, 100, 0, 1, 0, 100, 2, 2, 0, 1, 1, 2, 0, 1, 2, 2, 100};
+static const int64_t LINKED_WORDS[] = {3, 7, 3, 0, 1, 100, 0, 1, 0, 100, 5, 1, 0, 100, 0, 1, 0, 100, 2, 2, 0, -1, 1, 1, 0, 1, 2, 1, 50};
+
+static void expect(int holds, const char *what)
+{
+    passed += holds != 0;
+    failed += !holds;
+    if (!holds)
+        printf("FAILED  %s\n", what);
+}
+
+/* What was returned and what stands in the answer slice are the same number and place, and F and G are these. */
+static void expect_answer(uint64_t said, uint64_t number, uint64_t place, uint64_t loss, uint64_t gap, const char *what)
+{
+    int holds = said == 32 * place + number && BENCH_NUMBER(said) == number && BENCH_PLACE(said) == place && answer[0] == number
+             && answer[1] == place && answer[2] == loss && answer[3] == gap;
+    expect(holds, what);
+    if (!holds)
+        printf("        returned number %d, place %d\n", (int)BENCH_NUMBER(said), (int)BENCH_PLACE(said));
+    memset(answer, 0xEE, sizeof answer);
+}
+
+static uint64_t check(const uint8_t *job, size_t job_bytes, const uint8_t *proposal, size_t proposal_bytes)
+{
+    return bench_check(job, job_bytes, proposal, proposal_bytes, answer, BENCH_ANSWER_WORDS);
+}
+
+static uint64_t keep(const uint8_t *job, size_t job_bytes, const uint8_t *proposal, size_t proposal_bytes)
+{
+    return bench_keep(shelf, BENCH_SHELF_WORDS, job, job_bytes, proposal, proposal_bytes, answer, BENCH_ANSWER_WORDS);
+}
+
+static uint64_t fetch(uint32_t society, uint32_t job, uint32_t *out, size_t words)
+{
+    return bench_fetch(shelf, BENCH_SHELF_WORDS, society, job, out, words, answer, BENCH_ANSWER_WORDS);
+}
+
+static uint64_t forget(uint32_t society, uint32_t job)
+{
+    return bench_forget(shelf, BENCH_SHELF_WORDS, society, job, answer, BENCH_ANSWER_WORDS);
+}
+
+static void checks(void)
+{
+    const uint8_t multiplier[] = {2, 2, 1, 2, 0}, none[] = {2, 2, 1, 0, 0}, off[] = {2, 3, 3};
+    uint8_t tolerant[sizeof JOB];
+    memcpy(tolerant, JOB, sizeof JOB);
+    tolerant[5] = 9;
+    expect_answer(check(JOB, sizeof JOB, PROPOSAL, 3), BENCH_DONE, 0, 28, 0, "the worked example is accepted");
+    expect_answer(check(tolerant, sizeof JOB, off, 3), BENCH_DONE, 0, 30, 9, "a gap as large as the tolerance is accepted");
+    expect_answer(check(LINKED, sizeof LINKED, multiplier, 5), BENCH_DONE, 0, 15, 0, "a link with its multiplier closes the gap");
+    expect_answer(check(LINKED, sizeof LINKED, none, 5), BENCH_DONE, 0, 15, 2, "without the multiplier the gap is 2");
+}
+
+static void shelf_is_kept(void)
+{
+    uint32_t out[5] = {9, 9, 9, 9, 9};
+    uint32_t sum = 0;
+    memset(shelf, 0xFF, sizeof shelf);
+    expect_answer(bench_clear(shelf, BENCH_SHELF_WORDS, answer, BENCH_ANSWER_WORDS), BENCH_DONE, 0, 0, 0, "clear");
+    for (size_t i = 0; i < BENCH_SHELF_WORDS; i++)
+        sum |= shelf[i];
+    expect(sum == 0, "clearing sets every word to 0");
+    expect_answer(keep(JOB, sizeof JOB, PROPOSAL, 3), BENCH_DONE, 0, 28, 0, "keep");
+    expect_answer(fetch(3, 7, out, 5), BENCH_DONE, 3, 28, 0, "fetch gives the count of values, F and G");
+    expect(out[0] == 2 && out[1] == 3 && out[2] == 2 && out[3] == 9 && out[4] == 9, "fetch writes three values and no more");
+    expect_answer(fetch(2, 7, out, 5), BENCH_NOTHING_KEPT, 0, 0, 0, "another society has no such table");
+    expect_answer(forget(3, 7), BENCH_DONE, 0, 0, 0, "forget");
+    expect_answer(fetch(3, 7, out, 5), BENCH_NOTHING_KEPT, 0, 0, 0, "what is forgotten cannot be fetched");
+    sum = 0;
+    for (size_t i = 0; i < BENCH_SHELF_WORDS; i++)
+        sum |= shelf[i];
+    expect(sum == 0, "forgetting the only table leaves a cleared shelf");
+}
+
+/* A fifth table pushes out the oldest of its society, and a neighbour's stays. */
+static void shelf_is_full(void)
+{
+    uint8_t job[sizeof JOB];
+    uint32_t out[3];
+    memcpy(job, JOB, sizeof JOB);
+    bench_clear(shelf, BENCH_SHELF_WORDS, answer, BENCH_ANSWER_WORDS);
+    for (uint8_t number = 0; number < 5; number++) {
+        job[0] = 5;
+        job[1] = number;
+        expect_answer(keep(job, sizeof job, PROPOSAL, 3), BENCH_DONE, 0, 28, 0, "one of five tables is kept");
+        job[0] = 6;
+        job[1] = 0;
+        keep(job, sizeof job, PROPOSAL, 3);
+    }
+    expect_answer(fetch(5, 0, out, 3), BENCH_NOTHING_KEPT, 0, 0, 0, "the oldest is gone");
+    expect_answer(fetch(5, 1, out, 3), BENCH_DONE, 3, 28, 0, "the second oldest is there");
+    expect_answer(fetch(5, 4, out, 3), BENCH_DONE, 3, 28, 0, "the newest is there");
+    expect_answer(fetch(6, 0, out, 3), BENCH_DONE, 3, 28, 0, "the neighbour's is there");
+}
+
+static void proposals(void)
+{
+    uint8_t out[BENCH_MOST_HOUSE_BYTES];
+    memset(out, 0xEE, sizeof out);
+    expect_answer(bench_propose(JOB, sizeof JOB, out, sizeof out, answer, BENCH_ANSWER_WORDS), BENCH_DONE, 3, 0, 0, "propose");
+    expect(out[0] == 2 && out[1] == 3 && out[2] == 2 && out[3] == 0xEE, "the house proposal is 2 3 2, and nothing is written after it");
+    expect_answer(check(JOB, sizeof JOB, out, 3), BENCH_DONE, 0, 28, 0, "the house proposal is accepted");
+}
+
+static void round_trip(void)
+{
+    const size_t count = sizeof LINKED_WORDS / sizeof *LINKED_WORDS;
+    int64_t words[BENCH_MOST_JOB_WORDS];
+    uint8_t out[BENCH_MOST_JOB_BYTES];
+    memset(words, 0, sizeof words);
+    memset(out, 0xEE, sizeof out);
+    expect_answer(bench_read(LINKED, sizeof LINKED, words, BENCH_MOST_JOB_WORDS, answer, BENCH_ANSWER_WORDS), BENCH_DONE, count, 0, 0, "read");
+    expect(memcmp(words, LINKED_WORDS, sizeof LINKED_WORDS) == 0, "the numbers in pack order, with their signs");
+    expect_answer(bench_write(words, count, out, sizeof out, answer, BENCH_ANSWER_WORDS), BENCH_DONE, sizeof LINKED, 0, 0, "write");
+    expect(memcmp(out, LINKED, sizeof LINKED) == 0 && out[sizeof LINKED] == 0xEE, "writing what was read gives the same bytes and no more");
+}
+
+/* Refusals of a job pack: one byte of JOB or LINKED is changed, or its length. */
+struct damaged {
+    const char *what;
+    const uint8_t *pack;
+    size_t bytes, at;
+    uint8_t to;
+    uint64_t number, place;
+};
+
+static void job_refusals(void)
+{
+    const struct damaged cases[] = {
+        {"an empty pack", JOB, 0, 0, 3, 1, 0},
+        {"a pack cut off before the tolerance", JOB, 5, 0, 3, 1, 5},
+        {"an overlong link count", JOB, sizeof JOB, 18, 0x80, 1, 18},
+        {"a spare byte", LINKED, sizeof LINKED, 18, 1, 1, 25},
+        {"society 8", JOB, sizeof JOB, 0, 8, 2, 0},
+        {"n 2 with the house order 2", LINKED, sizeof LINKED, 2, 2, 2, 3},
+        {"constant 0", JOB, sizeof JOB, 4, 0, 2, 4},
+        {"floor 101 above ceiling 100 in cell 1", JOB, sizeof JOB, 12, 101, 3, 1},
+        {"a coefficient 0 in link 1", LINKED, sizeof LINKED, 27, 0, 5, 1},
+        {"cells of link 0 not rising", LINKED, sizeof LINKED, 22, 0, 5, 0},
+    };
+    uint8_t pack[64], out[BENCH_MOST_HOUSE_BYTES];
+    for (size_t i = 0; i < sizeof cases / sizeof *cases; i++) {
+        const struct damaged *c = &cases[i];
+        memcpy(pack, c->pack, c->bytes);
+        pack[c->at] = c->to;
+        expect_answer(check(pack, c->bytes, PROPOSAL, 3), c->number, c->place, 0, 0, c->what);
+        expect_answer(bench_propose(pack, c->bytes, out, sizeof out, answer, BENCH_ANSWER_WORDS), c->number, c->place, 0, 0, c->what);
+        expect_answer(keep(pack, c->bytes, PROPOSAL, 3), c->number, c->place, 0, 0, c->what);
+    }
+    memcpy(pack, LINKED, sizeof LINKED);
+    pack[7] = pack[11] = 0;
+    expect_answer(check(pack, sizeof LINKED, PROPOSAL, 3), BENCH_FEW_WEIGHTS, 0, 0, 0, "one positive weight where the order is 2");
+}
+
+static void proposal_refusals(void)
+{
+    const uint8_t cut[] = {2, 3}, spare[] = {2, 3, 2, 0}, above[] = {2, 0xC1, 0x84, 0x3D, 2}, outside[] = {2, 3, 101};
+    const uint8_t broken[] = {2, 3, 1, 2, 0}, off[] = {2, 3, 3};
+    expect_answer(check(JOB, sizeof JOB, cut, 2), BENCH_BAD_PROPOSAL, 2, 0, 0, "a proposal cut off");
+    expect_answer(check(JOB, sizeof JOB, spare, 4), BENCH_BAD_PROPOSAL, 3, 0, 0, "a spare byte after a proposal");
+    expect_answer(check(JOB, sizeof JOB, above, 5), BENCH_BAD_PROPOSAL, 1, 0, 0, "a value of 1,000,001");
+    expect_answer(check(JOB, sizeof JOB, outside, 3), BENCH_OUTSIDE_BOX, 2, 0, 0, "a value above its ceiling");
+    expect_answer(check(LINKED, sizeof LINKED, broken, 5), BENCH_LINK_BROKEN, 0, 0, 0, "a broken link");
+    expect_answer(check(JOB, sizeof JOB, off, 3), BENCH_GAP_ABOVE_TOLERANCE, 0, 0, 0, "a gap above the tolerance");
+}
+
+/* n 120, order 2, k 1,000, weight 1 in cells 0 and 1 only, made with the writer. */
+static void thin_refusal(void)
+{
+    static int64_t words[BENCH_MOST_JOB_WORDS];
+    uint8_t pack[BENCH_MOST_JOB_BYTES], out[BENCH_MOST_HOUSE_BYTES];
+    const int64_t header[] = {0, 0, 120, 2, 1000, 0};
+    memcpy(words, header, sizeof header);
+    words[7] = words[11] = 1;
+    uint64_t said = bench_write(words, 7 + 4 * 120, pack, sizeof pack, answer, BENCH_ANSWER_WORDS);
+    expect_answer(said, BENCH_DONE, 488, 0, 0, "the thin job is written");
+    said = bench_propose(pack, 488, out, sizeof out, answer, BENCH_ANSWER_WORDS);
+    expect_answer(said, BENCH_TOO_THIN, 119, 0, 0, "data too thin at cell 119");
+}
+
+/* The largest job: the lengths that bench.h names are reached, and one byte less is too few. Its links leave so much room that multipliers
+ * of 10^9 make a vast gap: 9 says that the proposal was read whole. */
+static void largest_job(void)
+{
+    static int64_t words[BENCH_MOST_JOB_WORDS], again[BENCH_MOST_JOB_WORDS];
+    static uint8_t pack[BENCH_MOST_JOB_BYTES], proposal[BENCH_MOST_PROPOSAL_BYTES + 1], out[BENCH_MOST_HOUSE_BYTES];
+    const int64_t header[] = {7, 4294967295, 120, 4, 1000, 1000000000000000};
+    const uint8_t million[] = {0xC0, 0x84, 0x3D}, milliard[] = {0x80, 0x94, 0xEB, 0xDC, 0x03};
+    size_t at = 6;
+    memcpy(words, header, sizeof header);
+    for (int i = 0; i < BENCH_MOST_CELLS; i++, at += 4) {
+        words[at] = words[at + 2] = words[at + 3] = 1000000;
+        words[at + 1] = 1000;
+        memcpy(proposal + 3 * i, million, 3);
+    }
+    words[at++] = BENCH_MOST_LINKS;
+    for (int l = 0; l < BENCH_MOST_LINKS; l++, at += 10) {
+        const int64_t link[] = {4, 116, 10, 117, -10, 118, 10, 119, -10, 1000000000};
+        memcpy(words + at, link, sizeof link);
+        memcpy(proposal + 360 + 5 * l, milliard, 5);
+    }
+    uint64_t said = bench_write(words, at, pack, BENCH_MOST_JOB_BYTES - 1, answer, BENCH_ANSWER_WORDS);
+    expect_answer(said, BENCH_WRONG_LENGTH, BENCH_MOST_JOB_BYTES, 0, 0, "the largest job needs all bytes");
+    said = bench_write(words, at, pack, BENCH_MOST_JOB_BYTES, answer, BENCH_ANSWER_WORDS);
+    expect_answer(said, BENCH_DONE, BENCH_MOST_JOB_BYTES, 0, 0, "the largest job is written");
+    said = bench_read(pack, sizeof pack, again, BENCH_MOST_JOB_WORDS, answer, BENCH_ANSWER_WORDS);
+    expect_answer(said, BENCH_DONE, BENCH_MOST_JOB_WORDS, 0, 0, "the largest job is read");
+    expect(at == BENCH_MOST_JOB_WORDS && memcmp(words, again, sizeof words) == 0, "with the same numbers");
+    said = bench_propose(pack, sizeof pack, out, BENCH_MOST_HOUSE_BYTES, answer, BENCH_ANSWER_WORDS);
+    expect_answer(said, BENCH_DONE, BENCH_MOST_HOUSE_BYTES, 0, 0, "the largest house proposal");
+    said = check(pack, sizeof pack, proposal, BENCH_MOST_PROPOSAL_BYTES);
+    expect_answer(said, BENCH_GAP_ABOVE_TOLERANCE, 0, 0, 0, "the largest proposal is read");
+    said = check(pack, sizeof pack, proposal, BENCH_MOST_PROPOSAL_BYTES + 1);
+    expect_answer(said, BENCH_BAD_PROPOSAL, BENCH_MOST_PROPOSAL_BYTES, 0, 0, "and nothing may follow it");
+}
+
+static void shelf_refusals(void)
+{
+    uint32_t out[3] = {9, 9, 9};
+    bench_clear(shelf, BENCH_SHELF_WORDS, answer, BENCH_ANSWER_WORDS);
+    keep(JOB, sizeof JOB, PROPOSAL, 3);
+    expect_answer(fetch(8, 7, out, 3), BENCH_NO_SUCH_SOCIETY, 0, 0, 0, "fetch for society 8");
+    expect_answer(forget(8, 7), BENCH_NO_SUCH_SOCIETY, 0, 0, 0, "forget for society 8");
+    expect_answer(fetch(3, 8, out, 3), BENCH_NOTHING_KEPT, 0, 0, 0, "fetch of a job that is not kept");
+    expect_answer(forget(3, 8), BENCH_NOTHING_KEPT, 0, 0, 0, "forget of a job that is not kept");
+    expect_answer(fetch(3, 7, out, 2), BENCH_WRONG_LENGTH, 3, 0, 0, "fetch into two words");
+    expect(out[0] == 9 && out[1] == 9 && out[2] == 9, "refused fetches write no value");
+    expect_answer(bench_clear(shelf, BENCH_SHELF_WORDS - 1, answer, BENCH_ANSWER_WORDS), BENCH_WRONG_LENGTH, BENCH_SHELF_WORDS, 0, 0,
+                  "a shelf one word short");
+    expect(shelf[3 * 504] == 3, "a refused clear clears nothing");
+}
+
+static void length_refusals(void)
+{
+    const uint8_t mark = 0xEE;
+    uint8_t out[BENCH_MOST_JOB_BYTES];
+    int64_t words[4];
+    memset(answer, mark, sizeof answer);
+    uint64_t said = bench_check(JOB, sizeof JOB, PROPOSAL, 3, answer, 3), untouched;
+    memset(&untouched, mark, sizeof untouched);
+    expect(said == 32 * 4 + 13, "an answer slice of three words: 13, place 4");
+    expect(answer[0] == untouched && answer[1] == untouched && answer[2] == untouched, "a wrong answer slice is not written");
+    memset(out, mark, sizeof out);
+    expect_answer(bench_propose(JOB, sizeof JOB, out, 2, answer, BENCH_ANSWER_WORDS), BENCH_WRONG_LENGTH, 3, 0, 0, "propose into two bytes");
+    expect_answer(bench_write(LINKED_WORDS, 29, out, 28, answer, BENCH_ANSWER_WORDS), BENCH_WRONG_LENGTH, 29, 0, 0, "write into 28 bytes");
+    expect(out[0] == mark && out[1] == mark, "refused outputs stay as they were");
+    expect_answer(bench_read(JOB, sizeof JOB, words, 4, answer, BENCH_ANSWER_WORDS), BENCH_WRONG_LENGTH, 19, 0, 0, "read into four words");
+    expect_answer(bench_write(LINKED_WORDS, 0, out, 28, answer, BENCH_ANSWER_WORDS), BENCH_UNREADABLE, 0, 0, 0, "no words to write");
+    words[0] = -1;
+    expect_answer(bench_write(words, 1, out, 28, answer, BENCH_ANSWER_WORDS), BENCH_NOT_ALLOWED, 0, 0, 0, "society -1");
+}
+
+int main(void)
+{
+    checks();
+    shelf_is_kept();
+    shelf_is_full();
+    proposals();
+    round_trip();
+    job_refusals();
+    proposal_refusals();
+    thin_refusal();
+    largest_job();
+    shelf_refusals();
+    length_refusals();
+    printf("%d passed, %d failed\n", passed, failed);
+    return failed == 0 ? 0 : 1;
+}

@@ -1,0 +1,165 @@
+/* The eight calls (document 01, "Numbers Mr Aldous reads"): the order of the refusals, and what a call returns and writes. */
+#include "parts.h"
+#include "twin.h"
+
+#include <string.h>
+
+struct twin_answer twin_plain(uint64_t number, uint64_t place)
+{
+    struct twin_answer answer = {number, place, 0, 0};
+    return answer;
+}
+
+static uint64_t returned(struct twin_answer a)
+{
+    return 32 * a.place + a.number;
+}
+
+static uint64_t told(struct twin_answer a, uint64_t *answer)
+{
+    answer[0] = a.number;
+    answer[1] = a.place;
+    answer[2] = a.loss;
+    answer[3] = a.gap;
+    return returned(a);
+}
+
+static uint64_t wrong_answer_slice(void)
+{
+    return returned(twin_plain(13, ANSWER_WORDS));
+}
+
+static struct twin_answer wrong_shelf(void)
+{
+    return twin_plain(13, SHELF_WORDS);
+}
+
+/* The check, with what it read of both packs. */
+static struct twin_answer checked(const uint8_t *job_pack, size_t job_bytes, const uint8_t *proposal, size_t proposal_bytes,
+                                  struct twin_job *job, struct twin_table *table)
+{
+    struct twin_answer a = twin_read_job(job_pack, job_bytes, job);
+    if (a.number == 0)
+        a = twin_read_proposal(proposal, proposal_bytes, job, table);
+    if (a.number == 0)
+        a = twin_judge(job, table);
+    return a;
+}
+
+uint64_t twin_check(const uint8_t *job, size_t job_bytes, const uint8_t *proposal, size_t proposal_bytes,
+                    uint64_t *answer, size_t answer_words)
+{
+    struct twin_job read;
+    struct twin_table table;
+    if (answer_words != ANSWER_WORDS)
+        return wrong_answer_slice();
+    return told(checked(job, job_bytes, proposal, proposal_bytes, &read, &table), answer);
+}
+
+uint64_t twin_propose(const uint8_t *job, size_t job_bytes, uint8_t *out, size_t out_bytes, uint64_t *answer, size_t answer_words)
+{
+    struct twin_job read;
+    int64_t value[MOST_CELLS];
+    uint8_t pack[3 * MOST_CELLS + MOST_LINKS];
+    if (answer_words != ANSWER_WORDS)
+        return wrong_answer_slice();
+    struct twin_answer a = twin_read_job(job, job_bytes, &read);
+    if (a.number == 0)
+        a = twin_house(&read, value);
+    if (a.number != 0)
+        return told(a, answer);
+    size_t bytes = 0;
+    for (int64_t i = 0; i < read.cells; i++)
+        bytes += twin_put_number(pack + bytes, (uint64_t)value[i]);
+    for (int64_t l = 0; l < read.links; l++)
+        bytes += twin_put_number(pack + bytes, 0);
+    if (out_bytes < bytes)
+        return told(twin_plain(13, bytes), answer);
+    memcpy(out, pack, bytes);
+    return told(twin_plain(0, bytes), answer);
+}
+
+uint64_t twin_keep(uint32_t *shelf, size_t shelf_words, const uint8_t *job, size_t job_bytes,
+                   const uint8_t *proposal, size_t proposal_bytes, uint64_t *answer, size_t answer_words)
+{
+    struct twin_job read;
+    struct twin_table table;
+    if (answer_words != ANSWER_WORDS)
+        return wrong_answer_slice();
+    if (shelf_words != SHELF_WORDS)
+        return told(wrong_shelf(), answer);
+    struct twin_answer a = checked(job, job_bytes, proposal, proposal_bytes, &read, &table);
+    if (a.number == 0)
+        twin_put_table(shelf, &read, &table, a.loss, a.gap);
+    return told(a, answer);
+}
+
+uint64_t twin_fetch(const uint32_t *shelf, size_t shelf_words, uint32_t society, uint32_t job,
+                    uint32_t *out, size_t out_words, uint64_t *answer, size_t answer_words)
+{
+    if (answer_words != ANSWER_WORDS)
+        return wrong_answer_slice();
+    if (shelf_words != SHELF_WORDS)
+        return told(wrong_shelf(), answer);
+    if (society >= SOCIETIES)
+        return told(twin_plain(11, 0), answer);
+    const uint32_t *slot = twin_find(shelf, society, job);
+    if (!slot)
+        return told(twin_plain(12, 0), answer);
+    if (out_words < slot[0])
+        return told(twin_plain(13, slot[0]), answer);
+    memcpy(out, slot + 6, slot[0] * sizeof *out);
+    struct twin_answer a = {0, slot[0], slot[2] | (uint64_t)slot[3] << 32, slot[4] | (uint64_t)slot[5] << 32};
+    return told(a, answer);
+}
+
+uint64_t twin_forget(uint32_t *shelf, size_t shelf_words, uint32_t society, uint32_t job, uint64_t *answer, size_t answer_words)
+{
+    if (answer_words != ANSWER_WORDS)
+        return wrong_answer_slice();
+    if (shelf_words != SHELF_WORDS)
+        return told(wrong_shelf(), answer);
+    if (society >= SOCIETIES)
+        return told(twin_plain(11, 0), answer);
+    return told(twin_plain(twin_remove(shelf, society, job) ? 0 : 12, 0), answer);
+}
+
+uint64_t twin_clear(uint32_t *shelf, size_t shelf_words, uint64_t *answer, size_t answer_words)
+{
+    if (answer_words != ANSWER_WORDS)
+        return wrong_answer_slice();
+    if (shelf_words != SHELF_WORDS)
+        return told(wrong_shelf(), answer);
+    memset(shelf, 0, SHELF_WORDS * sizeof *shelf);
+    return told(twin_plain(0, 0), answer);
+}
+
+uint64_t twin_read(const uint8_t *job, size_t job_bytes, int64_t *words, size_t word_count, uint64_t *answer, size_t answer_words)
+{
+    struct twin_job read;
+    if (answer_words != ANSWER_WORDS)
+        return wrong_answer_slice();
+    struct twin_answer a = twin_read_job(job, job_bytes, &read);
+    if (a.number != 0)
+        return told(a, answer);
+    size_t needed = twin_job_words(&read);
+    if (word_count < needed)
+        return told(twin_plain(13, needed), answer);
+    twin_put_words(&read, words);
+    return told(twin_plain(0, needed), answer);
+}
+
+uint64_t twin_write(const int64_t *words, size_t word_count, uint8_t *out, size_t out_bytes, uint64_t *answer, size_t answer_words)
+{
+    struct twin_job read;
+    size_t needed;
+    if (answer_words != ANSWER_WORDS)
+        return wrong_answer_slice();
+    struct twin_answer a = twin_read_words(words, word_count, &read, &needed);
+    if (a.number != 0)
+        return told(a, answer);
+    if (out_bytes < needed)
+        return told(twin_plain(13, needed), answer);
+    twin_put_job(&read, out);
+    return told(twin_plain(0, needed), answer);
+}

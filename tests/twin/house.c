@@ -1,0 +1,83 @@
+/* The house proposal (document 01): (W + kK'K)v = Wu in f64, each operation rounded once and in the paper's order.
+ * Compile with -ffp-contract=off: a fused multiplication and subtraction would round once instead of twice. */
+#include "parts.h"
+
+/* below[j][b] is L(j, j-b), for b from 1 to the order. */
+struct factor {
+    double below[MOST_CELLS][MOST_ORDER + 1];
+    double pivot[MOST_CELLS];
+};
+
+/* A(j, i) for i at most j and at most the order away from it: whole, and exact as a double. */
+static double entry(const struct twin_job *job, int64_t j, int64_t i)
+{
+    const int64_t *s = twin_row[job->order];
+    int64_t first = j > job->order ? j - job->order : 0;
+    int64_t last = i < job->cells - job->order - 1 ? i : job->cells - job->order - 1;
+    int64_t sum = 0;
+    for (int64_t p = first; p <= last; p++)
+        sum += s[i - p] * s[j - p];
+    return (double)((i == j ? job->w[j] : 0) + job->constant * sum);
+}
+
+static int64_t first_of_band(const struct twin_job *job, int64_t j)
+{
+    return j > job->order ? j - job->order : 0;
+}
+
+/* Row j of the factor and its pivot; false if the pivot is thin. */
+static bool factor_row(const struct twin_job *job, struct factor *f, int64_t j)
+{
+    int64_t first = first_of_band(job, j);
+    double *row = f->below[j];
+    for (int64_t i = first; i < j; i++) {
+        double rest = entry(job, j, i);
+        for (int64_t m = first; m < i; m++)
+            rest -= (row[j - m] * f->pivot[m]) * f->below[i][i - m];
+        row[j - i] = rest / f->pivot[i];
+    }
+    double pivot = entry(job, j, j);
+    for (int64_t m = first; m < j; m++)
+        pivot -= (row[j - m] * f->pivot[m]) * row[j - m];
+    f->pivot[j] = pivot;
+    return pivot > 1.0 / 1024.0;
+}
+
+static void solve(const struct twin_job *job, const struct factor *f, double *v)
+{
+    int64_t n = job->cells, z = job->order;
+    for (int64_t j = 0; j < n; j++) {
+        v[j] = (double)(job->w[j] * job->u[j]);
+        for (int64_t m = first_of_band(job, j); m < j; m++)
+            v[j] -= f->below[j][j - m] * v[m];
+    }
+    for (int64_t j = 0; j < n; j++)
+        v[j] = v[j] / f->pivot[j];
+    for (int64_t j = n - 1; j >= 0; j--)
+        for (int64_t m = j + 1; m < n && m <= j + z; m++)
+            v[j] -= f->below[m][m - j] * v[m];
+}
+
+/* The whole number nearest to v within the box, halves up. v less its whole part is exact. */
+static int64_t rounded(double v, int64_t lo, int64_t hi)
+{
+    if (!(v > (double)lo))
+        return lo;
+    if (!(v < (double)hi))
+        return hi;
+    int64_t down = (int64_t)v;
+    return v - (double)down >= 0.5 ? down + 1 : down;
+}
+
+struct twin_answer twin_house(const struct twin_job *job, int64_t *value)
+{
+    struct factor f;
+    double v[MOST_CELLS];
+    for (int64_t j = 0; j < job->cells; j++)
+        if (!factor_row(job, &f, j))
+            return twin_plain(10, (uint64_t)j);
+    solve(job, &f, v);
+    for (int64_t j = 0; j < job->cells; j++)
+        value[j] = rounded(v[j], job->lo[j], job->hi[j]);
+    return twin_plain(0, 0);
+}

@@ -1,0 +1,65 @@
+/* What the twin's files share: a job, a table, an answer, and one function or two for each section of document 01. */
+#ifndef TWIN_PARTS_H
+#define TWIN_PARTS_H
+
+#include <stdbool.h>
+#include <stddef.h>
+#include <stdint.h>
+
+enum { MOST_CELLS = 120, MOST_LINKS = 160, MOST_TERMS = 4, MOST_ORDER = 4 };
+enum { ANSWER_WORDS = 4, SHELF_WORDS = 4032 };
+
+struct twin_link {
+    int64_t terms;
+    int64_t cell[MOST_TERMS];
+    int64_t coefficient[MOST_TERMS];
+    int64_t bound;
+};
+
+/* A job's numbers. `order_field` is as packed, `order` is the order used. */
+struct twin_job {
+    int64_t society, number, cells, order_field, order, constant, tolerance;
+    int64_t u[MOST_CELLS], w[MOST_CELLS], lo[MOST_CELLS], hi[MOST_CELLS];
+    int64_t links;
+    struct twin_link link[MOST_LINKS];
+};
+
+/* A proposal's numbers. */
+struct twin_table {
+    int64_t value[MOST_CELLS];
+    int64_t multiplier[MOST_LINKS];
+};
+
+struct twin_answer {
+    uint64_t number, place, loss, gap;
+};
+
+/* An answer without loss and gap. */
+struct twin_answer twin_plain(uint64_t number, uint64_t place);
+
+/* Packs: each reader answers number 0, or the refusal. twin_number moves `at` past one number, or answers false. */
+bool twin_number(const uint8_t *bytes, size_t count, size_t *at, uint64_t *value);
+size_t twin_put_number(uint8_t *out, uint64_t value);
+struct twin_answer twin_read_job(const uint8_t *bytes, size_t count, struct twin_job *job);
+struct twin_answer twin_read_words(const int64_t *words, size_t count, struct twin_job *job, size_t *bytes);
+struct twin_answer twin_read_proposal(const uint8_t *bytes, size_t count, const struct twin_job *job,
+                                      struct twin_table *table);
+size_t twin_job_words(const struct twin_job *job);
+void twin_put_words(const struct twin_job *job, int64_t *words);
+void twin_put_job(const struct twin_job *job, uint8_t *out);
+
+/* Loss and gap. The rows s of the differences are read by the house proposal too. */
+extern const int64_t twin_row[MOST_ORDER + 1][MOST_ORDER + 1];
+void twin_residuals(const struct twin_job *job, const struct twin_table *table, int64_t *residual);
+struct twin_answer twin_judge(const struct twin_job *job, const struct twin_table *table);
+
+/* The house proposal: done with the values, or refusal 10. */
+struct twin_answer twin_house(const struct twin_job *job, int64_t *value);
+
+/* The shelf: a slot is one of document 01's places of 126 words. twin_find answers the slot, or a null pointer. */
+enum { SLOTS = 4, SLOT_WORDS = 126, SOCIETIES = 8 };
+const uint32_t *twin_find(const uint32_t *shelf, uint32_t society, uint32_t job);
+void twin_put_table(uint32_t *shelf, const struct twin_job *job, const struct twin_table *table, uint64_t loss, uint64_t gap);
+bool twin_remove(uint32_t *shelf, uint32_t society, uint32_t job);
+
+#endif

@@ -69,6 +69,10 @@ line-put input bytes {out} e h p =
     )
 
 -- ---- which line it is
+-- a length beyond what remains
+pub beyond-line : (input : List ℕ) (size next : ℕ) → length input - next < size → printed 1 (0 ∷ []) ≡ packsLine input (Value size next)
+beyond-line input size next h = rw (lt-ltb (length input - next) size h)
+
 -- the packs as parts of the input: the job pack up to where it ends, the proposal pack from there to the input's end
 pub packs-line : (input : List ℕ) (size next : ℕ) → size ≤ length input - next
     → checkedLine (checkedOf (take (next + size - next) (drop next input)) (take (length input - (next + size)) (drop (next + size) input))) ≡ packsLine input (Value size next)

@@ -1,7 +1,6 @@
 -- The job pack is the part of that size, and the proposal pack what is left.
-use borrow.Author.Tests.{lt-ltb}
 use Rattle.line.proofs.Stores.{puts-same}
-use Rattle.line.proofs.Lines.{packs-line}
+use Rattle.line.proofs.Lines.{beyond-line, packs-line}
 use borrow.Author.Needs.{needs}
 use Rattle.line.proofs.put_packs.Statement.{statement}
 use Rattle.line.proofs.put_packs.Tie as tie
@@ -16,7 +15,10 @@ same-length : tie.Need-same-length
 same-length c = search needs
 
 returns : tie.Need-returns
-returns c = rw (lt-ltb _ _ (c .before .before .before .before .if1 .taken)) (c .before .before .put-two .ensures)
+returns c =
+    let test = c .before .before .before .before in
+    let a = test .before .before .before .args in
+    puts-same (beyond-line (a .input .now) (a .size) (a .next) (test .if1 .taken)) (c .before .before .put-two .ensures)
 
 add-end : tie.Need-add-end
 add-end c = search needs

@@ -7,7 +7,7 @@ use native.Mathlib.Nat.{zero-add}
 use native.Mathlib.Omega.{arith}
 use borrow.Author.Tests.{lt-ltb, le-ltb}
 use lib.Dec.{ltb}
-use lib.IntN.{ℤ, pos, natAbs}
+use lib.IntN.{pos, natAbs}
 use lib.ListN.{length, take, drop, replicate, length-drop}
 use lib.Seq.{sets, sets-eq, take-all}
 use Rattle.numbers.specs.Choice.{if_then_else_}

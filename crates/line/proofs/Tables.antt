@@ -27,8 +27,8 @@ tableLine words rates n loss gap = printed 0 (countAt words 0 ∷ countAt words 
 pub words-fit : (words rates : List ℤ) (n loss gap : ℕ) → JobWords words → Rates n rates → length (tableLine words rates n loss gap) ≤ 1024
 words-fit words rates n loss gap J R = table-fits (countAt words 0) (countAt words 1) loss gap (firstValues n rates) (J .society) (J .number) (rates-small n rates R)
 
-module _ (words rates : List ℤ) (n loss gap : ℕ) (s j : ℕ) (p : s ≡ countAt words 0) (q : j ≡ countAt words 1) (J : JobWords words) (R : Rates n rates)
-    (out : List ℕ) (room : 1024 ≤ length out) where
+module _ {words rates : List ℤ} {n : ℕ} (J : JobWords words) (R : Rates n rates) {s j : ℕ} (p : s ≡ countAt words 0) (q : j ≡ countAt words 1)
+    (loss gap : ℕ) (out : List ℕ) (room : 1024 ≤ length out) where
   parts : headFields s j loss gap ++ (later (firstValues n rates) ++ (10 ∷ [])) ≡ tableLine words rates n loss gap
   parts = table-parts s j loss gap (firstValues n rates) ∙ ap₂ (λ (a b : ℕ). printed 0 (a ∷ b ∷ loss ∷ gap ∷ firstValues n rates)) p q
 

@@ -22,7 +22,6 @@ abbrev put-number-below : ℕ → In 1 put-number-kinds.ps
 put-number-below t =
     and 1 put-number-kinds.ps (falls 1 put-number-kinds.ps _<_ μ-put-number t) put-number.Pre
 
--- src/decimal.rt:14:20
 put-number-add-out :
     (t : ℕ) →
     put-number-lts.Need-add-out
@@ -31,7 +30,6 @@ put-number-add-out :
     put-number.Post
 put-number-add-out t c = search needs
 
--- src/decimal.rt:14:19
 put-number-cast-out :
     (t : ℕ) →
     put-number-lts.Need-cast-out
@@ -40,28 +38,24 @@ put-number-cast-out :
     put-number.Post
 put-number-cast-out t c = search needs
 
--- src/decimal.rt:14:9
 put-number-slice-write-out : (t : ℕ) → put-number-lts.Need-slice-write-out (
   put-number-below t,
   put-number.Post,
 ) (put-number-at t) put-number.Post
 put-number-slice-write-out t c = let s = c .before .before in room-one (s .args .x) (c .if1 .taken) (s .pre .1)
 
--- src/decimal.rt:15:16
 put-number-add-result : (t : ℕ) → put-number-lts.Need-add-result (
   put-number-below t,
   put-number.Post,
 ) (put-number-at t) put-number.Post
 put-number-add-result t c = search needs
 
--- src/decimal.rt:15:9
 put-number-same-length : (t : ℕ) → put-number-lts.Need-same-length (
   put-number-below t,
   put-number.Post,
 ) (put-number-at t) put-number.Post
 put-number-same-length t c = search needs
 
--- src/decimal.rt:15:9
 put-number-returns :
     (t : ℕ) →
     put-number-lts.Need-returns
@@ -70,35 +64,30 @@ put-number-returns :
     put-number.Post
 put-number-returns t c = let s = c .before .before in put-one (s .args .x) (s .args .out .now) (s .args .at) (c .if1 .taken)
 
--- src/decimal.rt:17:9
 put-number-put-number-requires : (t : ℕ) → put-number-lts.Need-put-number-requires (
   put-number-below t,
   put-number.Post,
 ) (put-number-at t) put-number.Post
 put-number-put-number-requires t c κs = let s = c .before .before .before in (search needs, room-tenth (s .args .x) (c .before .if1 .left) (search needs) (s .pre .1))
 
--- src/decimal.rt:18:18
 put-number-add-out-2 : (t : ℕ) → put-number-lts.Need-add-out-2 (
   put-number-below t,
   put-number.Post,
 ) (put-number-at t) put-number.Post
 put-number-add-out-2 t c = search needs
 
--- src/decimal.rt:18:17
 put-number-cast-out-2 : (t : ℕ) → put-number-lts.Need-cast-out-2 (
   put-number-below t,
   put-number.Post,
 ) (put-number-at t) put-number.Post
 put-number-cast-out-2 t c = search needs
 
--- src/decimal.rt:18:5
 put-number-slice-write-out-2 : (t : ℕ) → put-number-lts.Need-slice-write-out-2 (
   put-number-below t,
   put-number.Post,
 ) (put-number-at t) put-number.Post
 put-number-slice-write-out-2 t c = let s = c .before .before .before .before .before .before in room-last (s .args .x) (c .before .before .before .before .if1 .left) (search needs) (s .pre .1) (c .before .before .put-number .ensures)
 
--- src/decimal.rt:19:5
 put-number-add-result-2 : (t : ℕ) → put-number-lts.Need-add-result-2 (
   put-number-below t,
   put-number.Post,
@@ -107,14 +96,12 @@ put-number-add-result-2 t c =
     let s = c .before .before .before .before .before .before in
     omega (arith, room-last (s .args .x) (c .before .before .before .before .if1 .left) (search needs) (s .pre .1) (c .before .before .put-number .ensures))
 
--- src/decimal.rt:9:1
 put-number-same-length-2 : (t : ℕ) → put-number-lts.Need-same-length-2 (
   put-number-below t,
   put-number.Post,
 ) (put-number-at t) put-number.Post
 put-number-same-length-2 t c = search needs
 
--- src/decimal.rt:9:1
 put-number-returns-2 : (t : ℕ) → put-number-lts.Need-returns-2 (
   put-number-below t,
   put-number.Post,

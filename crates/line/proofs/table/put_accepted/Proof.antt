@@ -39,7 +39,11 @@ returns c =
     let f = g .before in
     let read = f .before .before in
     let s = read .before .before .before .before .before in
-    puts-same (accepted-line (s .args .job .now) (s .args .proposal .now) (s .args .loss) (s .args .gap) (s .pre .0) (read .read .last .1 .1 .0) (read .read .ensures .1) (f .size-of .result) (g .size-of2 .result) (f .size-of .ensures ∙ ap (λ (z : ℤ). natAbs z) (toZ-ofZ (s .fits .loss))) (g .size-of2 .ensures ∙ ap (λ (z : ℤ). natAbs z) (toZ-ofZ (s .fits .gap)))) (c .before .before .put-words .ensures)
+    let a = s .args in
+    let loss = f .size-of .ensures ∙ ap (λ (z : ℤ). natAbs z) (toZ-ofZ (s .fits .loss)) in
+    let gap = g .size-of2 .ensures ∙ ap (λ (z : ℤ). natAbs z) (toZ-ofZ (s .fits .gap)) in
+    let line = accepted-line (a .job .now) (a .proposal .now) (a .loss) (a .gap) (s .pre .0) (read .read .last .1 .1 .0) (read .read .ensures .1) (f .size-of .result) (g .size-of2 .result) loss gap in
+    puts-same line (c .before .before .put-words .ensures)
 
 pub put-accepted-spec : {M : Type 1} → statement M
 put-accepted-spec =

@@ -13,26 +13,39 @@ count-at-requires-2 c κs = let J = c .before .before .pre .0 in (omega (arith, 
 
 put-head-requires : tie.Need-put-head-requires
 put-head-requires c κs =
-    let s = c .before .before .before .before in
-    room-head (s .args .words .now) (s .args .rates .now) (s .args .n) (s .args .loss) (s .args .gap) (c .before .before .count-at .result) (c .before .count-at2 .result) (c .before .before .count-at .ensures) (c .before .count-at2 .ensures) (s .pre .0) (s .pre .1) (s .args .out .now) (s .pre .2)
+    let number = c .before in
+    let society = number .before in
+    let s = society .before .before in
+    room-head (s .pre .0) (s .pre .1) (society .count-at .ensures) (number .count-at2 .ensures) (s .args .loss) (s .args .gap) (s .args .out .now) (s .pre .2)
 
 put-values-requires : tie.Need-put-values-requires
 put-values-requires c κs =
-    let s = c .before .before .before .before .before .before .before .before in
-    (s .pre .1, room-values (s .args .words .now) (s .args .rates .now) (s .args .n) (s .args .loss) (s .args .gap) (c .before .before .before .before .before .before .count-at .result) (c .before .before .before .before .before .count-at2 .result) (c .before .before .before .before .before .before .count-at .ensures) (c .before .before .before .before .before .count-at2 .ensures) (s .pre .0) (s .pre .1) (s .args .out .now) (s .pre .2) (c .before .before .before .put-head .ensures))
+    let head = c .before .before .before in
+    let number = head .before .before in
+    let society = number .before in
+    let s = society .before .before in
+    (s .pre .1, room-values (s .pre .0) (s .pre .1) (society .count-at .ensures) (number .count-at2 .ensures) (s .args .loss) (s .args .gap) (s .args .out .now) (s .pre .2) (head .put-head .ensures))
 
 put-end-requires : tie.Need-put-end-requires
 put-end-requires c κs =
-    let s = c .before .before .before .before .before .before .before .before .before .before .before .before in
-    room-end (s .args .words .now) (s .args .rates .now) (s .args .n) (s .args .loss) (s .args .gap) (c .before .before .before .before .before .before .before .before .before .before .count-at .result) (c .before .before .before .before .before .before .before .before .before .count-at2 .result) (c .before .before .before .before .before .before .before .before .before .before .count-at .ensures) (c .before .before .before .before .before .before .before .before .before .count-at2 .ensures) (s .pre .0) (s .pre .1) (s .args .out .now) (s .pre .2) (c .before .before .before .before .before .before .before .put-head .ensures) (c .before .before .before .put-values .ensures)
+    let values = c .before .before .before in
+    let head = values .before .before .before .before in
+    let number = head .before .before in
+    let society = number .before in
+    let s = society .before .before in
+    room-end (s .pre .0) (s .pre .1) (society .count-at .ensures) (number .count-at2 .ensures) (s .args .loss) (s .args .gap) (s .args .out .now) (s .pre .2) (head .put-head .ensures) (values .put-values .ensures)
 
 same-length : tie.Need-same-length
 same-length c = search needs
 
 returns : tie.Need-returns
 returns c =
-    let s = c .before .before .before .before .before .before .before .before .before .before .before .before .before .before .before in
-    put-table (s .args .words .now) (s .args .rates .now) (s .args .n) (s .args .loss) (s .args .gap) (c .before .before .before .before .before .before .before .before .before .before .before .before .before .count-at .result) (c .before .before .before .before .before .before .before .before .before .before .before .before .count-at2 .result) (c .before .before .before .before .before .before .before .before .before .before .before .before .before .count-at .ensures) (c .before .before .before .before .before .before .before .before .before .before .before .before .count-at2 .ensures) (s .pre .0) (s .pre .1) (s .args .out .now) (s .pre .2) (c .before .before .before .before .before .before .before .before .before .before .put-head .ensures) (c .before .before .before .before .before .before .put-values .ensures) (c .before .before .put-end .ensures)
+    let values = c .before .before .before .before .before .before in
+    let head = values .before .before .before .before in
+    let number = head .before .before in
+    let society = number .before in
+    let s = society .before .before in
+    put-table (s .pre .0) (s .pre .1) (society .count-at .ensures) (number .count-at2 .ensures) (s .args .loss) (s .args .gap) (s .args .out .now) (s .pre .2) (head .put-head .ensures) (values .put-values .ensures) (c .before .before .put-end .ensures)
 
 pub put-rates-spec : {M : Type 1} → statement M
 put-rates-spec =

@@ -40,7 +40,9 @@ put-rates-requires c κs =
     let links = read .before .before in
     let cells = links .before in
     let s = cells .before .before .before in
-    (s .pre .0 .job, rates-read (s .args .words .now) (s .args .proposal .now) (s .pre .0) (cells .count-at .result) (links .count-at2 .result) (cells .count-at .ensures) (links .count-at2 .ensures) (read .read-proposal .last .1 .1 .1 .0) (read .read-proposal .ensures .1), s .pre .1)
+    let ws = s .args .words .now in
+    let values = rates-read ws (s .args .proposal .now) (s .pre .0) (cells .count-at .result) (links .count-at2 .result) (cells .count-at .ensures) (links .count-at2 .ensures) (read .read-proposal .last .1 .1 .1 .0) (read .read-proposal .ensures .1) in
+    (s .pre .0 .job, values, s .pre .1)
 
 same-length : tie.Need-same-length
 same-length c = search needs
@@ -52,7 +54,8 @@ returns c =
     let cells = links .before in
     let s = cells .before .before .before in
     let ws = s .args .words .now in
-    puts-same (ap (λ (vs : List ℕ). printed 0 (countAt ws 0 ∷ countAt ws 1 ∷ s .args .loss ∷ s .args .gap ∷ vs)) (values-read ws (s .args .proposal .now) (s .pre .0) (cells .count-at .result) (links .count-at2 .result) (cells .count-at .ensures) (links .count-at2 .ensures) (read .read-proposal .last .1 .1 .1 .0) (read .read-proposal .ensures .1))) (c .before .before .put-rates .ensures)
+    let values = values-read ws (s .args .proposal .now) (s .pre .0) (cells .count-at .result) (links .count-at2 .result) (cells .count-at .ensures) (links .count-at2 .ensures) (read .read-proposal .last .1 .1 .1 .0) (read .read-proposal .ensures .1) in
+    puts-same (ap (λ (vs : List ℕ). printed 0 (countAt ws 0 ∷ countAt ws 1 ∷ s .args .loss ∷ s .args .gap ∷ vs)) values) (c .before .before .put-rates .ensures)
 
 pub put-words-spec : {M : Type 1} → statement M
 put-words-spec =

@@ -1,6 +1,6 @@
 -- The digits of a number: one below 10, else those of a tenth and one more; at most 20, and no more than its size asks for.
-use Prim.Native.Nat.{ℕ, zero, suc, _+_, _/_, _%_, _^_, _≤_, _<_}
-use mathlib.Core.Path.{_≡_, refl, ap}
+use Prim.Native.Nat.{ℕ, zero, suc, _+_, _-_, _*_, _/_, _%_, _^_, _≤_, _<_}
+use mathlib.Core.Path.{_≡_, refl, ap, _∙_}
 use mathlib.Core.Bool.{Bool, true, false}
 use mathlib.Core.List.{List, [], _∷_, _++_}
 use native.Mathlib.Nat.{pow-suc}
@@ -10,6 +10,7 @@ use lib.Dec.{ltb}
 use lib.ListN.{length, length-append}
 use Rattle.numbers.specs.Choice.{if_then_else_}
 use Rattle.line.specs.Line.{digitsIn, decimal}
+use Rattle.line.specs.Promises.{numeral, DecimalsReadBack, DecimalsShortest}
 
 -- more room than is needed changes nothing
 digits-fuel : (g x : ℕ) → x < 10 ^ suc g → digitsIn (suc g) x ≡ digitsIn (suc (suc g)) x
@@ -39,8 +40,8 @@ digits-in zero k x h = omega arith
 digits-in (suc g) k x h = digits-step g k x (ltb x 10) refl (λ k'. digits-in g k' (x / 10)) h
 
 -- a number below 10^k has at most k digits
-pub digits-few : (k x : ℕ) → x < 10 ^ suc k → length (decimal x) ≤ suc k
-digits-few k x h = digits-in 20 k x h
+pub decimals-shortest : DecimalsShortest
+decimals-shortest k x h = digits-in 20 k x h
 
 digits-all : (g x : ℕ) → length (digitsIn g x) ≤ g
 unfolding digitsIn
@@ -53,3 +54,20 @@ digits-all (suc g) x = go (ltb x 10) (digits-all g (x / 10))
 
 pub digits-most : (x : ℕ) → length (decimal x) ≤ 20
 digits-most x = digits-all 20 x
+
+-- ---- what the digits stand for
+numeral-last : (before : ℕ) (digits : List ℕ) (last : ℕ) → numeral before (digits ++ (last ∷ [])) ≡ 10 * numeral before digits + (last - 48)
+numeral-last before [] last = refl
+numeral-last before (digit ∷ digits) last = numeral-last (10 * before + (digit - 48)) digits last
+
+stands-for : (g x : ℕ) (t : Bool) → numeral 0 (digitsIn g (x / 10)) ≡ x / 10 → numeral 0 (if t then (48 + x) ∷ [] else digitsIn g (x / 10) ++ ((48 + x % 10) ∷ [])) ≡ x
+stands-for g x true e = omega arith
+stands-for g x false e = numeral-last 0 (digitsIn g (x / 10)) (48 + x % 10) ∙ omega arith
+
+read-back : (g x : ℕ) → x < 10 ^ g → numeral 0 (digitsIn g x) ≡ x
+unfolding digitsIn
+read-back zero x h = omega arith
+read-back (suc g) x h = stands-for g x (ltb x 10) (read-back g (x / 10) (omega (arith, pow-suc 10 g)))
+
+pub decimals-read-back : DecimalsReadBack
+decimals-read-back x h = read-back 20 x (omega arith)

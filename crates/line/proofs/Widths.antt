@@ -11,7 +11,7 @@ use Rattle.shelf.specs.Given.{Rates, firstValues}
 use Rattle.shelf.proofs.Values.{length-map, map-at}
 use Rattle.line.specs.Line.{decimal, field, later, printed}
 use Rattle.line.specs.Puts.{Room}
-use Rattle.line.proofs.Digits.{digits-few, digits-most}
+use Rattle.line.proofs.Digits.{decimals-shortest, digits-most}
 use Rattle.line.proofs.Stores.{room-same}
 use Rattle.line.proofs.Parts.{pair-parts}
 
@@ -42,7 +42,7 @@ values-fit : (values : List ℕ) → ((i : ℕ) → i < length values → getD v
 values-fit [] h = omega (arith, later-none)
 values-fit (x ∷ xs) h =
     let first : x ≤ 1000000 = h 0 (omega arith) in
-    omega (arith, later-length x xs, digits-few 6 x (omega arith), values-fit xs (λ i l. h (suc i) (omega arith)))
+    omega (arith, later-length x xs, decimals-shortest 6 x (omega arith), values-fit xs (λ i l. h (suc i) (omega arith)))
 
 pub table-fits : (society job loss gap : ℕ) (values : List ℕ) → society ≤ 7 → job ≤ 4294967295 → Small values
     → length (printed 0 (society ∷ job ∷ loss ∷ gap ∷ values)) ≤ 1024
@@ -54,9 +54,9 @@ table-fits society job loss gap values s j S =
       later-length job (loss ∷ gap ∷ values),
       later-length loss (gap ∷ values),
       later-length gap values,
-      digits-few 0 0 (omega arith),
-      digits-few 0 society (omega arith),
-      digits-few 9 job (omega arith),
+      decimals-shortest 0 0 (omega arith),
+      decimals-shortest 0 society (omega arith),
+      decimals-shortest 9 job (omega arith),
       digits-most loss,
       digits-most gap,
       values-fit values (S .small),

@@ -1,10 +1,24 @@
 -- What is promised of the lines.
-use Prim.Native.Nat.{ℕ, _≤_}
+use Prim.Native.Nat.{ℕ, suc, _+_, _-_, _*_, _^_, _≤_, _<_}
 use mathlib.Core.Path.{_≡_}
 use mathlib.Core.List.{List, [], _∷_}
 use lib.ListN.{length}
-use Rattle.line.specs.Line.{lineOf}
+use Rattle.line.specs.Line.{decimal, lineOf}
 
+-- ---- numbers
+-- The number that ASCII digits stand for, after digits that come to so much.
+abbrev pub numeral : ℕ → List ℕ → ℕ
+numeral before [] = before
+numeral before (digit ∷ digits) = numeral (10 * before + (digit - 48)) digits
+
+-- The digits of a 64-bit number stand for it, and there are no more of them than it needs: so none is a leading zero.
+abbrev pub DecimalsReadBack : Type 0
+DecimalsReadBack = (x : ℕ) → x < 2 ^ 64 → numeral 0 (decimal x) ≡ x
+
+abbrev pub DecimalsShortest : Type 0
+DecimalsShortest = (k x : ℕ) → x < 10 ^ suc k → length (decimal x) ≤ suc k
+
+-- ---- lines
 -- Every line fits the 1,024 bytes that are lent for it.
 abbrev pub LinesFit : Type 0
 LinesFit = (input : List ℕ) → length (lineOf input) ≤ 1024

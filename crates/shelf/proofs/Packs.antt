@@ -64,7 +64,7 @@ module _ (job proposal : List ℕ) (F G : ℤ) (e : checkOf job proposal ≡ Acc
   abbrev pub ws : List ℤ
   ws = readJob job .words
 
-  pub packed : Packed job proposal
+  packed : Packed job proposal
   packed = accepted-read job proposal (ap accepted e)
 
   few : length ws ≤ 2087

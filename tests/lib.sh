@@ -1,4 +1,4 @@
-# What the scripts at the root share.
+# What the scripts at the root and in tests/ share. They start at the repository's root.
 
 # need COMMAND PACKAGE: installs Debian's PACKAGE where COMMAND is missing.
 need() {
@@ -17,14 +17,19 @@ need_prover() {
   exit 1
 }
 
-# The library's archive is for x86-64. There C is compiled and run as it is; elsewhere with a cross compiler and an emulator.
+# The library's archive and the programs are for x86-64. There they are linked and run as they are; elsewhere with a cross compiler, whose package brings
+# the C library too, and an emulator.
 on_x86() { [ "$(uname -m)" = x86_64 ]; }
 
-need_c() {
-  need gcc gcc
+need_x86() {
   on_x86 && return 0
   need x86_64-linux-gnu-gcc gcc-x86-64-linux-gnu
   need qemu-x86_64 qemu-user
+}
+
+need_c() {
+  need gcc gcc
+  need_x86
 }
 
 cc_x86() {
@@ -43,3 +48,16 @@ make_archive() {
   need_prover
   rt staticlib bench
 }
+
+# need_program NAME: proves the program NAME and what it rests on, and so builds target/bin/NAME. Where nothing changed that takes no time.
+need_program() {
+  need_prover
+  need_x86
+  mkdir -p target
+  [ -f "target/stamp/$1" ] || echo "proving the program $1 and what it rests on first; this takes some minutes" >&2
+  rt check "$1" >target/need_program.log 2>&1 && return 0
+  cat target/need_program.log >&2
+  exit 1
+}
+
+run_program() { run_x86 "target/bin/$1"; }

@@ -61,7 +61,7 @@ module _ (words : List ℤ) (proposal : List ℕ) (G : Given words proposal) (n 
 -- ---- two packs that the check has accepted
 module _ (job proposal : List ℕ) (F G : ℤ) (e : checkOf job proposal ≡ Accepted F G)
     (scratch : List ℤ) (stored : scratch ≡ sets (replicate 2087 (pos 0)) 0 (readJob job .words)) where
-  abbrev ws : List ℤ
+  abbrev pub ws : List ℤ
   ws = readJob job .words
 
   packed : Packed job proposal
@@ -70,13 +70,13 @@ module _ (job proposal : List ℕ) (F G : ℤ) (e : checkOf job proposal ≡ Acc
   few : length ws ≤ 2087
   few = read-words-few job (packed .job-done .0) (packed .job-done .1)
 
-  same-count : (i : ℕ) → countAt scratch i ≡ countAt ws i
+  pub same-count : (i : ℕ) → countAt scratch i ≡ countAt ws i
   same-count i = ap (λ (z : ℤ). natAbs z) (same-word 2087 ws few scratch stored i)
 
   same-links : linksOf scratch ≡ linksOf ws
   same-links = same-count (6 + 4 * cellsOf scratch) ∙ ap (λ (n : ℕ). countAt ws (6 + 4 * n)) (same-count 2)
 
-  same-rates : rates scratch proposal ≡ rates ws proposal
+  pub same-rates : rates scratch proposal ≡ rates ws proposal
   same-rates = ap₂ (λ (n m : ℕ). readProposal n m proposal .words) (same-count 2) same-links
 
   pub given-packs : Given scratch proposal

@@ -28,7 +28,7 @@ pub fn size_of(x: i64) -> u64
 }
 
 // The count that stands at `at`: a word of 32 bits at most.
-fn count_at(words: &[i64], at: usize) -> u64
+pub fn count_at(words: &[i64], at: usize) -> u64
     requires { ⌜ (at < length (now words)) × (countAt (now words) at ≤ 4294967295) ⌝ }
     ensures { λ r. ⌜ r ≡ countAt (now (words .entry)) at ⌝ }
 {

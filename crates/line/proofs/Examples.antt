@@ -1,0 +1,18 @@
+-- Document 01's example and the empty input, from their bytes to their lines, by computing.
+use mathlib.Core.Path.{refl}
+use Rattle.whole.specs.Sum.{sum}
+use Rattle.numbers.specs.Plain.{numberIn}
+use Rattle.fields.specs.Table.{stepOf}
+use Rattle.packs.specs.Reading.{runFrom}
+use Rattle.jobs.specs.Words.{startOf}
+use Rattle.rows.specs.Rows.{rowOf}
+use Rattle.measure.specs.Loss.{lossOf}
+use Rattle.measure.specs.Gap.{linkSum, residualOf, gapOf}
+use Rattle.measure.specs.Check.{lowestFrom, verdictOf}
+use Rattle.shelf.specs.Checked.{checkedOf}
+use Rattle.line.specs.Line.{digitsIn, later, checkedLine, lineOf}
+use Rattle.line.specs.Promises.{WorkedLines}
+
+pub worked-lines : WorkedLines
+unfolding sum numberIn stepOf runFrom startOf rowOf lossOf linkSum residualOf gapOf lowestFrom verdictOf checkedOf digitsIn later checkedLine lineOf
+worked-lines = (refl, refl)

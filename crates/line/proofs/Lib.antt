@@ -1,0 +1,9 @@
+-- Laws that several proofs cite.
+pub mod Digits
+pub mod Stores
+pub mod Parts
+pub mod Widths
+pub mod Rates
+pub mod Tables
+pub mod Lines
+pub mod Examples

@@ -1,0 +1,68 @@
+-- The line of an accepted table, from a job's words and a proposal's rates on to the two packs.
+use Prim.Native.Nat.{ℕ, _+_, _≤_}
+use mathlib.Core.Path.{_≡_, sym, ap, ap₂, _∙_}
+use mathlib.Core.List.{List, [], _∷_, _++_}
+use native.Mathlib.Omega.{arith}
+use lib.IntN.{ℤ, pos, natAbs}
+use lib.ListN.{length, replicate}
+use lib.Seq.{sets}
+use Rattle.jobs.specs.Words.{countAt, cellsOf, jobOf}
+use Rattle.jobs.specs.Packs.{readJob}
+use Rattle.measure.specs.declared.check.Verdict.{Verdict}
+use Rattle.measure.specs.declared.check.Verdict.the-variants.{Accepted, Refused}
+use Rattle.measure.specs.Check.{checkOf}
+use Rattle.shelf.specs.Checked.{checkedOf, valuesOf}
+use Rattle.shelf.specs.Given.{JobWords, Rates, rates, firstValues}
+use Rattle.shelf.proofs.Packs.{same-count, same-rates}
+use Rattle.line.specs.Line.{later, printed, verdictLine, checkedLine}
+use Rattle.line.specs.Puts.{Puts, Room, headFields}
+use Rattle.line.proofs.Stores.{puts-then, puts-same, room-first, room-then, room-same}
+use Rattle.line.proofs.Parts.{table-parts}
+use Rattle.line.proofs.Widths.{table-fits, rates-small}
+
+-- ---- a job's words and a proposal's rates
+abbrev pub tableLine : (words rates : List ℤ) (n loss gap : ℕ) → List ℕ
+tableLine words rates n loss gap = printed 0 (countAt words 0 ∷ countAt words 1 ∷ loss ∷ gap ∷ firstValues n rates)
+
+pub words-fit : (words rates : List ℤ) (n loss gap : ℕ) → JobWords words → Rates n rates → length (tableLine words rates n loss gap) ≤ 1024
+words-fit words rates n loss gap J R = table-fits (countAt words 0) (countAt words 1) loss gap (firstValues n rates) (J .society) (J .number) (rates-small n rates R)
+
+module _ {words rates : List ℤ} {n : ℕ} (J : JobWords words) (R : Rates n rates) {s j : ℕ} (p : s ≡ countAt words 0) (q : j ≡ countAt words 1)
+    (loss gap : ℕ) (out : List ℕ) (room : 1024 ≤ length out) where
+  parts : headFields s j loss gap ++ (later (firstValues n rates) ++ (10 ∷ [])) ≡ tableLine words rates n loss gap
+  parts = table-parts s j loss gap (firstValues n rates) ∙ ap₂ (λ (a b : ℕ). printed 0 (a ∷ b ∷ loss ∷ gap ∷ firstValues n rates)) p q
+
+  whole : Room (headFields s j loss gap ++ (later (firstValues n rates) ++ (10 ∷ []))) 0 out
+  whole = room-same (sym parts) (record { fits = omega (arith, words-fit words rates n loss gap J R) })
+
+  pub room-head : Room (headFields s j loss gap) 0 out
+  room-head = room-first (headFields s j loss gap) (later (firstValues n rates) ++ (10 ∷ [])) whole
+
+  module _ {mid : List ℕ} {at : ℕ} (head : Puts (headFields s j loss gap) out 0 at mid) where
+    pub room-values : Room (later (firstValues n rates)) at mid
+    room-values = room-first (later (firstValues n rates)) (10 ∷ []) (room-then head whole)
+
+    module _ {after : List ℕ} {end : ℕ} (values : Puts (later (firstValues n rates)) mid at end after) where
+      pub room-end : Room (10 ∷ []) end after
+      room-end = room-then values (room-then head whole)
+
+      pub put-table : {last : List ℕ} {r : ℕ} → Puts (10 ∷ []) after end r last → Puts (tableLine words rates n loss gap) out 0 r last
+      put-table feed = puts-same parts (puts-then head (puts-then values feed))
+
+-- ---- two packs that the check has accepted
+module _ (job proposal : List ℕ) (F G : ℤ) (e : checkOf job proposal ≡ Accepted F G)
+    (scratch : List ℤ) (stored : scratch ≡ sets (replicate 2087 (pos 0)) 0 (readJob job .words)) where
+  pub accepted-line : (f g : ℕ) → f ≡ natAbs F → g ≡ natAbs G → tableLine scratch (rates scratch proposal) (cellsOf scratch) f g ≡ checkedLine (checkedOf job proposal)
+  unfolding checkedOf checkedLine
+  accepted-line f g p q =
+      let ws = readJob job .words in
+      let count = same-count job proposal F G e scratch stored in
+      ap₂ (λ (a b : ℕ). tableLine scratch (rates scratch proposal) (cellsOf scratch) a b) p q
+      ∙ ap₂ (λ (n : ℕ) (r : List ℤ). tableLine scratch r n (natAbs F) (natAbs G)) (count 2) (same-rates job proposal F G e scratch stored)
+      ∙ ap₂ (λ (a b : ℕ). printed 0 (a ∷ b ∷ natAbs F ∷ natAbs G ∷ valuesOf (jobOf ws) proposal)) (count 0) (count 1)
+      ∙ sym (ap (λ (v : Verdict). verdictLine v (checkedOf job proposal)) e)
+
+-- ---- and two that it has refused
+pub refused-line : (job proposal : List ℕ) (number place : ℕ) → checkOf job proposal ≡ Refused number place → printed number (place ∷ []) ≡ checkedLine (checkedOf job proposal)
+unfolding checkedOf checkedLine
+refused-line job proposal number place e = sym (ap (λ (v : Verdict). verdictLine v (checkedOf job proposal)) e)

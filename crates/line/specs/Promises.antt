@@ -1,0 +1,35 @@
+-- What is promised of the lines.
+use Prim.Native.Nat.{ℕ, suc, _+_, _-_, _*_, _^_, _≤_, _<_}
+use mathlib.Core.Path.{_≡_}
+use mathlib.Core.List.{List, [], _∷_}
+use lib.ListN.{length}
+use Rattle.line.specs.Line.{decimal, lineOf}
+
+-- ---- numbers
+-- The number that ASCII digits stand for, after digits that come to so much.
+abbrev pub numeral : ℕ → List ℕ → ℕ
+numeral before [] = before
+numeral before (digit ∷ digits) = numeral (10 * before + (digit - 48)) digits
+
+-- The digits of a 64-bit number stand for it, and there are no more of them than it needs: so none is a leading zero.
+abbrev pub DecimalsReadBack : Type 0
+DecimalsReadBack = (x : ℕ) → x < 2 ^ 64 → numeral 0 (decimal x) ≡ x
+
+abbrev pub DecimalsShortest : Type 0
+DecimalsShortest = (k x : ℕ) → x < 10 ^ suc k → length (decimal x) ≤ suc k
+
+-- ---- lines
+-- Every line fits the 1,024 bytes that are lent for it.
+abbrev pub LinesFit : Type 0
+LinesFit = (input : List ℕ) → length (lineOf input) ≤ 1024
+
+-- Document 01's example, 13 03 07 03 02 01 00 00 01 00 64 07 01 00 64 00 01 00 64 00 02 03 02 in hex, and "0 3 7 28 0 2 3 2" with its line feed.
+abbrev pub example : List ℕ
+example = 19 ∷ 3 ∷ 7 ∷ 3 ∷ 2 ∷ 1 ∷ 0 ∷ 0 ∷ 1 ∷ 0 ∷ 100 ∷ 7 ∷ 1 ∷ 0 ∷ 100 ∷ 0 ∷ 1 ∷ 0 ∷ 100 ∷ 0 ∷ 2 ∷ 3 ∷ 2 ∷ []
+
+abbrev pub exampleLine : List ℕ
+exampleLine = 48 ∷ 32 ∷ 51 ∷ 32 ∷ 55 ∷ 32 ∷ 50 ∷ 56 ∷ 32 ∷ 48 ∷ 32 ∷ 50 ∷ 32 ∷ 51 ∷ 32 ∷ 50 ∷ 10 ∷ []
+
+-- The example prints its line, and an empty input, whose length cannot be read, prints "1 0".
+abbrev pub WorkedLines : Type 0
+WorkedLines = (lineOf example ≡ exampleLine) × (lineOf [] ≡ 49 ∷ 32 ∷ 48 ∷ 10 ∷ [])

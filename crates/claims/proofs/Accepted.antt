@@ -10,7 +10,6 @@ use lib.Dec.{leb, eqb}
 use lib.IntN.{ℤ}
 use lib.Signed.{_≤ℤ_}
 use Rattle.numbers.specs.Choice.{if_then_else_}
-use Rattle.fields.specs.declared.Field.the-variants.{Society}
 use Rattle.fields.specs.Table.{valuesFrom}
 use Rattle.packs.specs.declared.Outcome.{Outcome}
 use Rattle.packs.specs.declared.Outcome.the-variants.{Done, Refused as Refuses}
@@ -114,7 +113,7 @@ module _ (job proposal : List ℕ) where
       go : (o : Outcome) → readJob job .outcome ≡ o → Says (checkOf job proposal)
       go (Done k) e = on-proposal (k, e)
       go (Refuses number place) e =
-          let h : OneToFive number = refused-one-to-five Society job number place e in
+          let h : OneToFive number = refused-one-to-five job number place e in
           says-so (job-refused e) (subst (λ (A : Type 0). A) (sym (first-five number place (h .1))) (h, e))
 
 -- ---- the promises

@@ -1,25 +1,26 @@
 -- The promises of the eight calls over C, each a law whose type is its statement in specs/BenchPromises.antt: one general law about `Says`, and an
 -- instance a call.
-use Prim.Native.Nat.{ℕ, _/_, _%_, _≤_}
-use mathlib.Core.Path.{_≡_, refl, sym, ap, _∙_}
+use Prim.Native.Nat.{ℕ, _/_, _%_}
+use mathlib.Core.Path.{_≡_, refl, sym, ap, subst, _∙_}
+use mathlib.Core.Logic.{inl, inr}
 use mathlib.Core.Bool.{Bool, true, false}
-use mathlib.Core.List.{List, []}
+use mathlib.Core.List.{List, [], _∷_}
 use native.Mathlib.Omega.{arith}
 use lib.ListN.{length, drop}
-use Rattle.numbers.specs.Choice.{if_then_else_}
 use Rattle.packs.specs.Writing.{roomed}
 use Rattle.jobs.specs.Packs.{readJobInto, writeJob}
 use Rattle.measure.specs.Check.{checkOf}
 use Rattle.shelf.specs.declared.Answer.{Answer}
 use Rattle.shelf.specs.Shelf.{base}
-use Rattle.shelf.specs.Calls.{fetch, after, said}
+use Rattle.shelf.specs.Calls.{keep, fetch, forget, clear, after, said}
 use Rattle.house.specs.Proposal.{proposeOf}
 use Rattle.bench.specs.Answers.{codeOf, hasFour, Says}
 use Rattle.bench.proofs.Small.{Small, check-small}
 use Rattle.bench.proofs.Outcomes.{propose-small, read-small, write-small}
 use Rattle.bench.proofs.Shelves.{said-small}
-use Rattle.claims.specs.BenchPromises.{Untouched, Determined, Numbered, RefusalsKept, RestsKept}
+use Rattle.claims.specs.BenchPromises.{Among, Untouched, Determined, Numbered, RefusalsKept, RestsKept}
 use Rattle.claims.proofs.Unwritten.{Kept, verdict-kept, write-kept, read-kept, propose-kept, shelf-kept, fetch-kept}
+use Rattle.claims.proofs.CallNumbers.{check-number, propose-number, read-number, write-number, keep-number, fetch-number, forget-number, clear-number}
 use Rattle.claims.proofs.Beyond.{beyond-made, beyond-values, write-within, read-within, propose-within, fetch-within}
 
 -- ---- determined
@@ -49,12 +50,16 @@ place-of a s = omega (arith, s .number)
 
 module _ {A : Type 0} {a : Answer} (s : Small a) {answer : List ℕ} {before after : List A} {r : ℕ} {p : List ℕ} {x : List A}
     (says : Says a answer before after r p x) where
-  numbered-by : r % 32 ≤ 13
-  numbered-by = rw (says .returns) (go (hasFour answer))
+  numbered-by : (others : List ℕ) (most : ℕ) → Among others most 13 → Among others most (a .number) → Among others most (r % 32)
+  numbered-by others most t h = go (hasFour answer) refl
     where
-      go : (t : Bool) → (if t then codeOf a else 141) % 32 ≤ 13
-      go true = omega (arith, s .number)
-      go false = omega arith
+      go : (b : Bool) → hasFour answer ≡ b → Among others most (r % 32)
+      go true e =
+          let same : r ≡ codeOf a = says .returns ∙ rw e in
+          subst (Among others most) (sym (ap (λ (c : ℕ). c % 32) same ∙ number-of a s)) h
+      go false e =
+          let same : r ≡ 141 = says .returns ∙ rw e in
+          subst (Among others most) (sym (ap (λ (c : ℕ). c % 32) same)) t
 
   kept-by : Kept a before after → (r % 32 ≡ 0 → ⊥) → Untouched answer before r p x
   kept-by kept n = go (hasFour answer) refl
@@ -85,12 +90,19 @@ module _ {A : Type 0} {a : Answer} (s : Small a) {answer : List ℕ} {before aft
 
 pub numbered : Numbered
 numbered = record {
-  check = λ job proposal answer r a x says. numbered-by (check-small job proposal) (says .0);
-  propose = λ job out answer r a x says. numbered-by (propose-small (length out) job) says;
-  read = λ job words answer r a x says. numbered-by (read-small (length words) job) says;
-  write = λ words out answer r a x says. numbered-by (write-small (length out) words) says;
-  on-shelf = λ call shelf answer r a x says. numbered-by (said-small shelf call) says;
-  fetch = λ shelf society job out answer r a x says. numbered-by (said-small shelf (fetch society job (length out))) says;
+  check = λ job proposal answer r a says. numbered-by (check-small job proposal) says (13 ∷ []) 9 (inl refl) (check-number job proposal);
+  propose = λ job out answer r a x says.
+      numbered-by (propose-small (length out) job) says (10 ∷ 13 ∷ []) 5 (inr (inl refl)) (propose-number (length out) job);
+  read = λ job words answer r a x says. numbered-by (read-small (length words) job) says (13 ∷ []) 5 (inl refl) (read-number (length words) job);
+  write = λ words out answer r a x says. numbered-by (write-small (length out) words) says (13 ∷ []) 5 (inl refl) (write-number (length out) words);
+  keep = λ job proposal shelf answer r a x says.
+      numbered-by (said-small shelf (keep job proposal)) says (13 ∷ []) 9 (inl refl) (keep-number job proposal shelf);
+  fetch = λ shelf society job out answer r a x says.
+      numbered-by (said-small shelf (fetch society job (length out))) says (11 ∷ 12 ∷ 13 ∷ []) 0 (inr (inr (inl refl)))
+      (fetch-number shelf society job (length out));
+  forget = λ society job shelf answer r a x says.
+      numbered-by (said-small shelf (forget society job)) says (11 ∷ 12 ∷ 13 ∷ []) 0 (inr (inr (inl refl))) (forget-number shelf society job);
+  clear = λ shelf answer r a x says. numbered-by (said-small shelf clear) says (13 ∷ []) 0 (inl refl) (clear-number shelf);
 }
 
 pub refusals-kept : RefusalsKept

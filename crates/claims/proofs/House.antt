@@ -1,6 +1,6 @@
 -- The house proposal at the check: its job pack reads, its proposal pack reads, and its values lie in their boxes, so no refusal below 8 is left.
 use Prim.Native.Nat.{ℕ, _≤_, _<_}
-use mathlib.Core.Path.{_≡_, refl, sym, subst, _∙_}
+use mathlib.Core.Path.{_≡_, refl, subst}
 use mathlib.Core.Bool.{Bool, true, false}
 use mathlib.Core.List.{List}
 use native.Mathlib.Omega.{arith}

@@ -19,4 +19,5 @@ pub mod ShelfPromises
 pub mod House
 pub mod Unwritten
 pub mod Beyond
+pub mod CallNumbers
 pub mod BenchPromises

@@ -2,11 +2,12 @@
 -- stands in proofs/BenchPromises.antt.
 use Prim.Native.Nat.{ℕ, _/_, _%_, _≤_}
 use mathlib.Core.Path.{_≡_}
+use mathlib.Core.Logic.{_⊎_}
 use mathlib.Core.List.{List, [], _∷_}
 use lib.IntN.{ℤ}
 use lib.ListN.{drop}
 use Rattle.numbers.specs.Choice.{if_then_else_}
-use Rattle.shelf.specs.Calls.{Call}
+use Rattle.shelf.specs.Calls.{Call, keep, forget, clear}
 use Rattle.bench.specs.Answers.{hasFour}
 use Rattle.bench.specs.Calls.{CheckSays, ProposeSays, ReadSays, WriteSays, ShelfSays, FetchSays}
 
@@ -33,11 +34,29 @@ OneResult A answer before claim =
 abbrev pub Determined : Type 0
 Determined = OfEachCall OneResult
 
--- ---- refusals
+-- ---- numbers
 
--- "Every refusal has a number and a place": the remainder by 32 is the number, 13 at most, and the quotient is the place.
-abbrev pub NumberKnown : (A : Type 0) (answer : List ℕ) (before : List A) → Claim A → Type 0
-NumberKnown A answer before claim = (r : ℕ) (a : List ℕ) (x : List A) → claim r a x → r % 32 ≤ 13
+-- The number is one of the others, or at most so much.
+abbrev pub Among : (others : List ℕ) (most : ℕ) → ℕ → Type 0
+Among [] most number = number ≤ most
+Among (other ∷ others) most number = (number ≡ other) ⊎ Among others most number
+
+-- "Every refusal has a number and a place": of what is returned the remainder by 32 is the number, and the quotient is the place.
+abbrev pub NumberIn : (others : List ℕ) (most : ℕ) {A : Type 0} → Claim A → Type 0
+NumberIn others most {A} claim = (r : ℕ) (a : List ℕ) (x : List A) → claim r a x → Among others most (r % 32)
+
+-- Each call gives the numbers that document 01's table has for it, and no other.
+pub record Numbered : Type 0 where
+  pub check : (job proposal answer : List ℕ) (r : ℕ) (a : List ℕ) → CheckSays job proposal answer r a → Among (13 ∷ []) 9 (r % 32)
+  pub propose : (job out answer : List ℕ) → NumberIn (10 ∷ 13 ∷ []) 5 (ProposeSays job out answer)
+  pub read : (job : List ℕ) (words : List ℤ) (answer : List ℕ) → NumberIn (13 ∷ []) 5 (ReadSays job words answer)
+  pub write : (words : List ℤ) (out answer : List ℕ) → NumberIn (13 ∷ []) 5 (WriteSays words out answer)
+  pub keep : (job proposal shelf answer : List ℕ) → NumberIn (13 ∷ []) 9 (ShelfSays (keep job proposal) shelf answer)
+  pub fetch : (shelf : List ℕ) (society job : ℕ) (out answer : List ℕ) → NumberIn (11 ∷ 12 ∷ 13 ∷ []) 0 (FetchSays shelf society job out answer)
+  pub forget : (society job : ℕ) (shelf answer : List ℕ) → NumberIn (11 ∷ 12 ∷ 13 ∷ []) 0 (ShelfSays (forget society job) shelf answer)
+  pub clear : (shelf answer : List ℕ) → NumberIn (13 ∷ []) 0 (ShelfSays clear shelf answer)
+
+-- ---- refusals
 
 -- "A refusal changes no lent word or byte, that answer slice excepted", and there number and place are told, and F and G are 0; an answer slice of
 -- another length is not written to.
@@ -47,9 +66,6 @@ pub record Untouched {A : Type 0} (answer : List ℕ) (before : List A) (returne
 
 abbrev pub RefusalKept : (A : Type 0) (answer : List ℕ) (before : List A) → Claim A → Type 0
 RefusalKept A answer before claim = (r : ℕ) (a : List ℕ) (x : List A) → claim r a x → (r % 32 ≡ 0 → ⊥) → Untouched answer before r a x
-
-abbrev pub Numbered : Type 0
-Numbered = OfEachCall NumberKnown
 
 abbrev pub RefusalsKept : Type 0
 RefusalsKept = OfEachCall RefusalKept

@@ -91,17 +91,17 @@ zeros-at (suc m) zero = refl
 zeros-at (suc m) (suc i) = zeros-at m i
 
 module _ (j : Job) (v : List Float) where
-  count-is : length (wordsOf j v) ≡ j .cells + j .links
+  pub count-is : length (wordsOf j v) ≡ j .cells + j .links
   unfolding wordsOf
   count-is = length-filled (λ i. valueOf j i (getD v i nan)) (j .cells) 0 (replicate (j .cells + j .links) (pos 0)) ∙ length-replicate (j .cells + j .links) (pos 0)
 
-  value-is : (i : ℕ) → i < j .cells → wordAt (wordsOf j v) i ≡ valueOf j i (getD v i nan)
+  pub value-is : (i : ℕ) → i < j .cells → wordAt (wordsOf j v) i ≡ valueOf j i (getD v i nan)
   unfolding wordsOf
   value-is i h =
       filled-at (λ i. valueOf j i (getD v i nan)) (j .cells) 0 i (replicate (j .cells + j .links) (pos 0)) (pos 0) (omega arith) (omega arith)
       (rw (length-replicate (j .cells + j .links) (pos 0)) (omega arith))
 
-  zero-is : (i : ℕ) → j .cells ≤ i → wordAt (wordsOf j v) i ≡ pos 0
+  pub zero-is : (i : ℕ) → j .cells ≤ i → wordAt (wordsOf j v) i ≡ pos 0
   unfolding wordsOf
   zero-is i h =
       filled-other (λ i. valueOf j i (getD v i nan)) (j .cells) 0 i (replicate (j .cells + j .links) (pos 0)) (pos 0) (inr (omega arith))

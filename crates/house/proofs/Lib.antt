@@ -9,3 +9,4 @@ pub mod Solving
 pub mod Handing
 pub mod Fitting
 pub mod Thin
+pub mod Writable

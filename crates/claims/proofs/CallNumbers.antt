@@ -1,0 +1,171 @@
+-- Which numbers each call's answer can have: document 01's tests, one after another.
+use Prim.Native.Nat.{ℕ, _*_}
+use mathlib.Core.Path.{_≡_, refl}
+use mathlib.Core.Logic.{inl, inr}
+use mathlib.Core.Bool.{Bool, true, false, cond}
+use mathlib.Core.List.{List, [], _∷_}
+use native.Mathlib.Omega.{arith}
+use lib.Dec.{eqb, leb, ltb}
+use lib.IntN.{ℤ}
+use lib.ListN.{length, take, drop, getD}
+use Rattle.numbers.specs.Choice.{if_then_else_}
+use Rattle.packs.specs.declared.Outcome.{Outcome}
+use Rattle.packs.specs.declared.Outcome.the-variants.{Done, Refused as Refuses}
+use Rattle.packs.specs.Writing.{Written, refused, inRoom, roomed}
+use Rattle.packs.proofs.Near.{Near}
+use Rattle.jobs.specs.Job.{Job}
+use Rattle.jobs.specs.Words.{jobOf}
+use Rattle.jobs.specs.Allowed.{Allowed}
+use Rattle.jobs.specs.Packs.{handedOut, readJob, readJobInto, writeJob, writeProposal}
+use Rattle.jobs.proofs.Near.{job-read-near, job-written-near}
+use Rattle.jobs.proofs.Readings.{read-jobs-allowed}
+use Rattle.measure.specs.declared.check.Verdict.{Verdict}
+use Rattle.measure.specs.declared.check.Verdict.the-variants.{Accepted, Refused}
+use Rattle.measure.specs.Check.{checkOf}
+use Rattle.house.specs.declared.factor.Ending.{Ending}
+use Rattle.house.specs.declared.factor.Ending.the-variants.{Whole, Thin}
+use Rattle.house.specs.Proposal.{wordsOf, onEnding, solvedOf, proposedOf, onRead, proposeOf}
+use Rattle.house.proofs.Writable.{house-writes}
+use Rattle.shelf.specs.declared.Slot.{Slot}
+use Rattle.shelf.specs.declared.Slot.the-variants.{At, Nowhere}
+use Rattle.shelf.specs.Slots.{Reply, refusal, done, joined, lowest, hasJob, atSlot, fetchAt, fetchIn, forgetReply}
+use Rattle.shelf.specs.Checked.{checkedOf, answerOf}
+use Rattle.shelf.specs.Shelf.{base, spanOf, fromSociety, fromWhole, keepReply, fetchReply, forgotReply}
+use Rattle.shelf.specs.Calls.{Call, keep, fetch, forget, clear, wholeSaid, said}
+use Rattle.bench.specs.Calls.{outcomeOf}
+use Rattle.claims.specs.BenchPromises.{Among}
+use Rattle.claims.proofs.Unwritten.{handed}
+use Rattle.claims.proofs.Accepted.{no-other-refusal}
+
+-- ---- the check
+
+pub check-number : (job proposal : List ℕ) → Among (13 ∷ []) 9 (answerOf (checkOf job proposal) .number)
+check-number job proposal = go (checkOf job proposal) refl
+  where
+    go : (v : Verdict) → checkOf job proposal ≡ v → Among (13 ∷ []) 9 (answerOf v .number)
+    go (Accepted F G) e = inr (omega arith)
+    go (Refused number place) e = inr (no-other-refusal job proposal number place e .1)
+
+-- ---- packs
+
+-- done is 0, or 13 where there is no room; a refusal stays as it is
+room-number : (others : List ℕ) (most room : ℕ) (bytes : List ℕ) (o : Outcome) → Among others most 13 → Among others most (outcomeOf o .number)
+    → Among others most (outcomeOf (inRoom room bytes o .outcome) .number)
+room-number others most room bytes (Refuses number place) t h = h
+room-number others most room bytes (Done n) t h = go (ltb room n)
+  where
+    go : (b : Bool) → Among others most (outcomeOf ((if b then refused 13 n else record { bytes = bytes; outcome = Done n }) .outcome) .number)
+    go true = t
+    go false = h
+
+near-number : (o : Outcome) → Near 20870 o → Among (13 ∷ []) 5 (outcomeOf o .number)
+near-number (Done n) h = inr (omega arith)
+near-number (Refuses number place) h = inr (h .1)
+
+pub write-number : (room : ℕ) (words : List ℤ) → Among (13 ∷ []) 5 (outcomeOf (roomed room (writeJob words) .outcome) .number)
+write-number room words =
+    room-number (13 ∷ []) 5 room (writeJob words .bytes) (writeJob words .outcome) (inl refl) (near-number (writeJob words .outcome) (job-written-near words))
+
+handed-number : (room : ℕ) (words : List ℤ) (o : Outcome) → Among (13 ∷ []) 5 (outcomeOf o .number)
+    → Among (13 ∷ []) 5 (outcomeOf (handedOut room words o .outcome) .number)
+handed-number room words (Refuses number place) h = h
+handed-number room words (Done n) h = go (ltb room n)
+  where
+    go : (b : Bool) → Among (13 ∷ []) 5 (outcomeOf (handed n words b .outcome) .number)
+    go true = inl refl
+    go false = h
+
+pub read-number : (room : ℕ) (job : List ℕ) → Among (13 ∷ []) 5 (outcomeOf (readJobInto room job .outcome) .number)
+read-number room job = handed-number room (readJob job .words) (readJob job .outcome) (near-number (readJob job .outcome) (job-read-near job))
+
+-- ---- the house proposal
+
+abbrev HouseNumber : Written → Type 0
+HouseNumber w = Among (10 ∷ 13 ∷ []) 5 (outcomeOf (w .outcome) .number)
+
+done-number : (room : ℕ) (w : Written) (n : ℕ) → w .outcome ≡ Done n → HouseNumber (roomed room w)
+done-number room w n e = room-number (10 ∷ 13 ∷ []) 5 room (w .bytes) (w .outcome) (inr (inl refl)) (rw e (inr (inr (omega arith))))
+
+proposed-number : (room : ℕ) (j : Job) → Allowed j → HouseNumber (proposedOf room j)
+unfolding proposedOf
+proposed-number room j A = go (solvedOf j .ending)
+  where
+    go : (e : Ending) → HouseNumber (onEnding room j (solvedOf j .values) e)
+    go Whole = let w = house-writes j A (solvedOf j .values) in done-number room (writeProposal (j .cells) (j .links) (wordsOf j (solvedOf j .values))) (w .0) (w .1)
+    go (Thin cell pivot) = inl refl
+
+pub propose-number : (room : ℕ) (job : List ℕ) → HouseNumber (proposeOf room job)
+propose-number room job = go (readJob job .outcome) refl (job-read-near job)
+  where
+    go : (o : Outcome) → readJob job .outcome ≡ o → Near 20870 o → HouseNumber (onRead room (readJob job .words) o)
+    go (Done k) e h = proposed-number room (jobOf (readJob job .words)) (read-jobs-allowed job k e)
+    go (Refuses number place) e h = inr (inr (h .1))
+
+-- ---- the shelf
+
+abbrev Held : Reply → Type 0
+Held r = Among (11 ∷ 12 ∷ 13 ∷ []) 0 (r .answer .number)
+
+held-done : Among (11 ∷ 12 ∷ 13 ∷ []) 0 0
+held-done = inr (inr (inr (omega arith)))
+
+at-number : (room : ℕ) (x : List ℕ) → Held (fetchAt room x)
+unfolding fetchAt
+at-number room x = go (leb (getD x 0 0) room)
+  where
+    go : (b : Bool) → Held (cond b (record { answer = record { number = 0; place = getD x 0 0; loss = joined (getD x 2 0) (getD x 3 0); gap = joined (getD x 4 0) (getD x 5 0) }; values = take (getD x 0 0) (drop 6 x) }) (refusal 13 (getD x 0 0)))
+    go true = held-done
+    go false = inr (inr (inl refl))
+
+fetch-in-number : (w c job room : ℕ) (s : List ℕ) → Held (fetchIn w c job room s)
+unfolding fetchIn
+fetch-in-number w c job room s = go (lowest (hasJob job) w c s)
+  where
+    go : (o : Slot) → Held (atSlot o (λ p. fetchAt room (drop (w * p) s)) (refusal 12 0))
+    go (At p) = at-number room (drop (w * p) s)
+    go Nowhere = inr (inl refl)
+
+forget-in-number : (w c job : ℕ) (s : List ℕ) → Held (forgetReply w c job s)
+unfolding forgetReply
+forget-in-number w c job s = go (lowest (hasJob job) w c s)
+  where
+    go : (o : Slot) → Held (atSlot o (λ p. done) (refusal 12 0))
+    go (At p) = held-done
+    go Nowhere = inr (inl refl)
+
+society-number : (society : ℕ) (f : List ℕ → Reply) (shelf : List ℕ) → ((x : List ℕ) → Held (f x)) → Held (fromSociety base society f shelf)
+unfolding fromSociety
+society-number society f shelf k = go (leb society 7)
+  where
+    go : (b : Bool) → Held (cond b (f (spanOf base society shelf)) (refusal 11 0))
+    go true = k (spanOf base society shelf)
+    go false = inl refl
+
+-- 13, where the shelf has another length, or what the call says
+whole-number : (others : List ℕ) (most : ℕ) (shelf : List ℕ) (call : Call) → Among others most 13 → Among others most (wholeSaid base shelf call .answer .number)
+    → Among others most (said base shelf call .answer .number)
+unfolding fromWhole
+whole-number others most shelf call t h = go (eqb (length shelf) 4032)
+  where
+    go : (b : Bool) → Among others most (cond b (wholeSaid base shelf call) (refusal 13 4032) .answer .number)
+    go true = h
+    go false = t
+
+pub keep-number : (job proposal shelf : List ℕ) → Among (13 ∷ []) 9 (said base shelf (keep job proposal) .answer .number)
+unfolding keepReply checkedOf
+keep-number job proposal shelf = whole-number (13 ∷ []) 9 shelf (keep job proposal) (inl refl) (check-number job proposal)
+
+pub fetch-number : (shelf : List ℕ) (society job room : ℕ) → Held (said base shelf (fetch society job room))
+unfolding fetchReply
+fetch-number shelf society job room =
+    whole-number (11 ∷ 12 ∷ 13 ∷ []) 0 shelf (fetch society job room) (inr (inr (inl refl)))
+    (society-number society (fetchIn 126 4 job room) shelf (fetch-in-number 126 4 job room))
+
+pub forget-number : (shelf : List ℕ) (society job : ℕ) → Held (said base shelf (forget society job))
+unfolding forgotReply
+forget-number shelf society job =
+    whole-number (11 ∷ 12 ∷ 13 ∷ []) 0 shelf (forget society job) (inr (inr (inl refl)))
+    (society-number society (forgetReply 126 4 job) shelf (forget-in-number 126 4 job))
+
+pub clear-number : (shelf : List ℕ) → Among (13 ∷ []) 0 (said base shelf clear .answer .number)
+clear-number shelf = whole-number (13 ∷ []) 0 shelf clear (inl refl) (inr (omega arith))

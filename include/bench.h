@@ -138,8 +138,9 @@ uint64_t bench_propose(const uint8_t *job, size_t job_bytes, uint8_t *out, size_
                        uint64_t *answer, size_t answer_words);
 
 /* Checks as bench_check does and, if it accepts, keeps the table on the shelf among its society's four: in the slot that has the job
- * already, else in the lowest empty one, else slot 0's table goes and the others move down. Done: F and G as in the check, place 0. It never reads or writes another
- * society's words. A shelf may hold any words, but only one that was cleared first holds lists that mean something. Numbers: 0 to 9, 13. */
+ * already, else in the lowest empty one, else slot 0's table goes and the others move down by one. Done: F and G as in the check, place 0.
+ * It never reads or writes another society's words. A shelf may hold any words, but only one that was cleared first holds lists that mean
+ * something. Numbers: 0 to 9, 13. */
 uint64_t bench_keep(uint32_t *shelf, size_t shelf_words, const uint8_t *job, size_t job_bytes,
                     const uint8_t *proposal, size_t proposal_bytes, uint64_t *answer, size_t answer_words);
 

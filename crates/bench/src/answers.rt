@@ -6,9 +6,9 @@ ghost use Rattle.shelf.specs.Checked.{answerOf};
 ghost use Rattle.bench.specs.Answers.{codeOf, wordsOf};
 ghost use Rattle.bench.specs.Calls.{outcomeOf};
 use measure::check::Verdict;
+use numbers::zigzag::size_of;
 use packs::Outcome;
 use shelf::Answer;
-use shelf::accepted::size_of;
 use shelf::plain;
 
 // The words of an answer.

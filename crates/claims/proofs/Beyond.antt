@@ -15,7 +15,7 @@ use Rattle.fields.specs.Table.{valuesFrom}
 use Rattle.packs.specs.declared.Outcome.{Outcome}
 use Rattle.packs.specs.declared.Outcome.the-variants.{Done, Refused}
 use Rattle.packs.specs.Writing.{refused, inRoom, roomed, writeFrom}
-use Rattle.packs.proofs.Onto.{length-written}
+use Rattle.packs.proofs.Packing.{length-written}
 use Rattle.jobs.specs.Job.{Job}
 use Rattle.jobs.specs.Words.{jobOf}
 use Rattle.jobs.specs.Packs.{handedOut, readJob, readJobInto, writeJob, writeProposal}

@@ -9,7 +9,7 @@ use Rattle.numbers.proofs.Clash.{clash}
 use Rattle.fields.specs.declared.Field.{Field}
 use Rattle.fields.specs.declared.Field.the-variants.{Society, Job, Count, Order, Constant, Tolerance, Crude, Weight, Floor, Ceiling, LinkCount, TermCount, Cell, Coefficient, Bound, Value, Multiplier, End}
 use Rattle.fields.specs.declared.Step.{Step}
-use Rattle.fields.specs.declared.Step.the-variants.{Next}
+use Rattle.fields.specs.declared.Step.the-variants.{Next, NotAllowed}
 use Rattle.fields.specs.Table.{within, rule, signedAt, endAt, stepOf}
 
 -- a rule that lets the walk go on was kept
@@ -52,6 +52,36 @@ signed-small (Bound a) x g t e = omega (arith, within-both 0 2000000000 x (kept 
 signed-small (Value a b) x g t e = clash (cc)
 signed-small (Multiplier a) x g t e = clash (cc)
 signed-small End x g t e = clash (cc)
+
+-- a number beyond what is allowed
+within-out : (most x : ℕ) → most < x → within 0 most x ≡ false
+within-out most x h = go (within 0 most x) refl
+  where
+    go : (o : Bool) → within 0 most x ≡ o → o ≡ false
+    go true q = absurd (omega (arith, within-both 0 most x q))
+    go false q = refl
+
+-- a signed number that nine groups do not hold is not allowed
+pub signed-large : (f : Field) (x : ℕ) → signedAt f ≡ true → 2 ^ 63 ≤ x → stepOf f x ≡ NotAllowed
+unfolding stepOf
+signed-large Society x t h = clash (cc)
+signed-large Job x t h = clash (cc)
+signed-large Count x t h = clash (cc)
+signed-large (Order a) x t h = clash (cc)
+signed-large (Constant a b) x t h = clash (cc)
+signed-large (Tolerance a b) x t h = clash (cc)
+signed-large (Crude a) x t h = clash (cc)
+signed-large (Weight a) x t h = clash (cc)
+signed-large (Floor a) x t h = clash (cc)
+signed-large (Ceiling a b) x t h = clash (cc)
+signed-large (LinkCount a) x t h = clash (cc)
+signed-large (TermCount a) x t h = clash (cc)
+signed-large (Cell a) x t h = clash (cc)
+signed-large (Coefficient a b) x t h = rw (within-out 20 x (omega arith))
+signed-large (Bound a) x t h = rw (within-out 2000000000 x (omega arith))
+signed-large (Value a b) x t h = clash (cc)
+signed-large (Multiplier a) x t h = clash (cc)
+signed-large End x t h = clash (cc)
 
 -- only the end is the end
 pub end-only : (f : Field) → endAt f ≡ true → f ≡ End

@@ -23,7 +23,7 @@ use Rattle.packs.specs.declared.Outcome.the-variants.{Done, Refused}
 use Rattle.packs.specs.Promises.{AllWords}
 use Rattle.packs.specs.Reading.{Ran}
 use Rattle.packs.specs.Writing.{Written, inRoom, refused, writeFrom}
-use Rattle.packs.proofs.Onto.{length-written}
+use Rattle.packs.proofs.Packing.{length-written}
 use Rattle.jobs.specs.Job.{Job}
 use Rattle.jobs.specs.Words.{wordAt, jobOf}
 use Rattle.jobs.specs.Allowed.{Allowed}

@@ -15,8 +15,8 @@ use crate::parted::put_end;
 use crate::parted::put_field;
 use crate::parted::put_values;
 use fields::Field;
+use numbers::zigzag::size_of;
 use shelf::accepted::count_at;
-use shelf::accepted::size_of;
 
 // The fields before the values.
 fn put_head(society: u64, job: u64, loss: u64, gap: u64, out: &mut [u8]) -> usize

@@ -1,7 +1,7 @@
 // Signed numbers of a pack: coefficients and bounds are stored as 2x for x >= 0 and -2x-1 below.
 ghost use mathlib.Core.Path.{_≡_};
 ghost use Prim.Native.Nat.{ℕ, _^_, _<_};
-ghost use lib.IntN.{ℤ, pos, negsuc};
+ghost use lib.IntN.{ℤ, pos, negsuc, natAbs};
 ghost use Rattle.numbers.specs.Zigzag.{storedOf, signedOf, signOf};
 
 // A signed number taken apart: n for n, and n for -(n + 1).
@@ -54,4 +54,15 @@ pub fn stored(x: i64) -> u64
         Sign::Plus(n) => n * 2,
         Sign::Minus(n) => n * 2 + 1,
     }
+}
+
+// The size of a signed number: the number itself, where it is not negative.
+pub fn size_of(x: i64) -> u64
+    ensures { λ r. ⌜ r ≡ natAbs x ⌝ }
+{
+    if x < 0 {
+        let less = (-1 - x) as u64;
+        return less + 1;
+    }
+    x as u64
 }

@@ -1,7 +1,8 @@
 pub mod Stores
-pub mod Along
-pub mod Onto
+pub mod Forward
 pub mod Packed
+pub mod Along
+pub mod Packing
 pub mod Packable
 pub mod Trips
 pub mod Near

@@ -21,10 +21,10 @@ use Rattle.fields.specs.Table.{endAt, stepOf}
 use Rattle.fields.proofs.Budget.{budget, standing, Onward, Kept, step-kept}
 use Rattle.packs.specs.declared.Outcome.{Outcome}
 use Rattle.packs.specs.declared.Outcome.the-variants.{Done, Refused as Refuses}
-use Rattle.packs.specs.declared.reading.Move.{Move}
-use Rattle.packs.specs.declared.reading.Move.the-variants.{Stop, Refuse}
-use Rattle.packs.specs.declared.writing.Raw.{Raw}
-use Rattle.packs.specs.declared.writing.Raw.the-variants.{Number as Stored, Nothing}
+use Rattle.packs.specs.declared.walking.Move.{Move}
+use Rattle.packs.specs.declared.walking.Move.the-variants.{Stop, Refuse}
+use Rattle.packs.specs.declared.words.Raw.{Raw}
+use Rattle.packs.specs.declared.words.Raw.the-variants.{Number as Stored, Nothing}
 use Rattle.packs.specs.Reading.{Ran, wordOf, settled, numbered, onMove, runFrom, readFrom}
 use Rattle.packs.specs.Writing.{Written, refused, onStep, onRaw, onPut, rawOf, writeFrom}
 

@@ -29,9 +29,9 @@ use Rattle.fields.specs.Table.{signedAt, endAt, stepOf}
 use Rattle.fields.proofs.Rows.{signed-small}
 use Rattle.packs.specs.declared.Outcome.{Outcome}
 use Rattle.packs.specs.declared.Outcome.the-variants.{Done, Refused as Refuses}
-use Rattle.packs.specs.declared.reading.Move.the-variants.{Stop, Refuse}
-use Rattle.packs.specs.declared.writing.Raw.{Raw}
-use Rattle.packs.specs.declared.writing.Raw.the-variants.{Number as Stored, Nothing}
+use Rattle.packs.specs.declared.walking.Move.the-variants.{Stop, Refuse}
+use Rattle.packs.specs.declared.words.Raw.{Raw}
+use Rattle.packs.specs.declared.words.Raw.the-variants.{Number as Stored, Nothing}
 use Rattle.packs.specs.Reading.{Ran, wordOf, settled, numbered, moveOf, onMove, runFrom}
 use Rattle.packs.specs.Writing.{Written, refused, plainOf, rawOf, onStep, onRaw, putOf, onPut, writeFrom}
 use Rattle.packs.specs.PackOf.{PackOf, none, spare, word}

@@ -15,7 +15,7 @@ use Rattle.packs.specs.Reading.{Ran, readFrom}
 use Rattle.packs.specs.Writing.{Written, writeFrom}
 use Rattle.packs.specs.PackOf.{PackOf, Reached, start, onward}
 use Rattle.packs.specs.Promises.{WritingBack, ReadingBack, readAs, RefusingAlike, OutOfRange, EndingEarly, RunningOn}
-use Rattle.packs.proofs.Onto.{length-written}
+use Rattle.packs.proofs.Packing.{length-written}
 use Rattle.packs.proofs.Packed.{ended, Agrees, agrees, packs-write, write-packs, read-packs}
 
 -- a whole pack, read from its first byte

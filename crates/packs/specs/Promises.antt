@@ -13,7 +13,7 @@ use Rattle.fields.specs.declared.Step.the-variants.{NotAllowed}
 use Rattle.fields.specs.Table.{endAt, stepOf}
 use Rattle.packs.specs.declared.Outcome.{Outcome}
 use Rattle.packs.specs.declared.Outcome.the-variants.{Done, Refused}
-use Rattle.packs.specs.declared.writing.Raw.the-variants.{Number, Nothing}
+use Rattle.packs.specs.declared.words.Raw.the-variants.{Number, Nothing}
 use Rattle.packs.specs.Reading.{readFrom}
 use Rattle.packs.specs.Writing.{rawOf, writeFrom}
 use Rattle.packs.specs.PackOf.{PackOf, Reached, Stuck}

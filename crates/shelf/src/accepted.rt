@@ -2,7 +2,6 @@
 ghost use mathlib.Core.Path.{_≡_};
 ghost use mathlib.Core.List.{_++_};
 ghost use Prim.Native.Nat.{_≤_, _<_};
-ghost use lib.IntN.{natAbs};
 ghost use lib.ListN.{length, drop};
 ghost use Rattle.jobs.specs.Words.{countAt, cellsOf};
 ghost use Rattle.measure.specs.declared.check.Verdict.the-variants.{Accepted};
@@ -15,17 +14,7 @@ use crate::societies::keep_society;
 use crate::span::plain;
 use fields::Field;
 use measure::check::Verdict;
-
-// The size of a signed number: the number itself, where it is not negative.
-pub fn size_of(x: i64) -> u64
-    ensures { λ r. ⌜ r ≡ natAbs x ⌝ }
-{
-    if x < 0 {
-        let less = (-1 - x) as u64;
-        return less + 1;
-    }
-    x as u64
-}
+use numbers::zigzag::size_of;
 
 // The count that stands at `at`: a word of 32 bits at most.
 pub fn count_at(words: &[i64], at: usize) -> u64

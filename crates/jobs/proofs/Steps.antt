@@ -20,8 +20,8 @@ use Rattle.fields.specs.declared.Step.the-variants.{Next, NotAllowed, Refused}
 use Rattle.fields.specs.Table.{endAt, stepOf}
 use Rattle.fields.proofs.Rows.{end-only}
 use Rattle.packs.specs.declared.Outcome.the-variants.{Done}
-use Rattle.packs.specs.declared.reading.Move.{Move}
-use Rattle.packs.specs.declared.reading.Move.the-variants.{Stop, Refuse}
+use Rattle.packs.specs.declared.walking.Move.{Move}
+use Rattle.packs.specs.declared.walking.Move.the-variants.{Stop, Refuse}
 use Rattle.packs.specs.Reading.{Ran, wordOf, settled, numbered, onMove, runFrom, readFrom}
 
 -- the words are steps of the walk from the field on, up to the end

@@ -40,5 +40,10 @@ pub fn read_job(pack: &[u8], out: &mut [i64]) -> Outcome
 pub fn write_job(words: &[i64], out: &mut [u8]) -> Outcome
     ensures { λ r. ⌜ Leaves (roomed (length (now (out .entry))) (writeJob (now (words .entry)))) (now (out .entry)) r (now (out .exit)) ⌝ }
 {
-    packs::writing::write(words, Field::Society, out)
+    let mut numbers = [0i64; JOB_WORDS];
+    let r = packs::writing::numbers_of(words, Field::Society, &mut numbers);
+    match r {
+        Outcome::Done(k) => packs::writing::put(&numbers[0..k], out),
+        Outcome::Refused(number, place) => Outcome::Refused(number, place),
+    }
 }

@@ -1,13 +1,9 @@
 // The proposal pack.
 use fields::proposal::values_from;
 use packs::Outcome;
-use packs::writing::in_room;
-use packs::writing::measured;
 ghost use mathlib.Core.Path.{_≡_};
-ghost use lib.ListN.{length};
 ghost use Rattle.packs.specs.Reading.{Hands};
-ghost use Rattle.packs.specs.Writing.{roomed, Leaves};
-ghost use Rattle.jobs.specs.Packs.{asSix, readProposal, writeProposal};
+ghost use Rattle.jobs.specs.Packs.{asSix, readProposal};
 
 // Every refusal of the pack's numbers is 6 in a proposal.
 fn as_six(o: Outcome) -> Outcome
@@ -27,13 +23,4 @@ pub fn read_proposal(pack: &[u8], cells: u64, links: u64, words: &mut [i64]) -> 
     let first = values_from(cells, links);
     let o = packs::reading::read(pack, first, words);
     as_six(o)
-}
-
-// Writes a proposal's words as its pack, or refuses as reading that pack would and writes nothing; room is tested last.
-pub fn write_proposal(words: &[i64], cells: u64, links: u64, out: &mut [u8]) -> Outcome
-    ensures { λ r. ⌜ Leaves (roomed (length (now (out .entry))) (writeProposal cells links (now (words .entry)))) (now (out .entry)) r (now (out .exit)) ⌝ }
-{
-    let first = values_from(cells, links);
-    let o = as_six(measured(words, first));
-    in_room(words, first, o, out)
 }

@@ -21,10 +21,55 @@ use Rattle.packs.specs.declared.Outcome.the-variants.{Done, Refused as R
 use Rattle.packs.specs.Reading.{Ran}
 use Rattle.packs.specs.Writing.{Written, Put, Fits, Bars, refused, onPut, putOf, writeFrom, inRoom}
 use Rattle.packs.specs.Walking.{onNumber, stops, numbersFrom, packed}
-use Rattle.packs.specs.Promises.{readAs}
 use Rattle.packs.proofs.Stores.{sets-append}
 
+-- ---- the length that is answered is that of the bytes
+
+length-put : (at n : ℕ) (p : Put) (rest : Field → ℕ → Written) → ((g : Field) (raw : ℕ) → rest g raw .outcome ≡ Done n → at + length (bytesOf raw) + length (rest g raw .bytes) ≡ n)
+    → onPut p rest .outcome ≡ Done n → at + length (onPut p rest .bytes) ≡ n
+length-put at n (Fits g raw) rest ih e = omega (arith, ih g raw e, length-append (bytesOf raw) (rest g raw .bytes))
+length-put at n (Bars i p) rest ih e = clash (cc)
+
+pub length-written : (ws : List ℤ) (f : Field) (at n : ℕ) → writeFrom ws f at .outcome ≡ Done n → at + length (writeFrom ws f at .bytes) ≡ n
+unfolding writeFrom
+length-written [] f at n e = go (endAt f) e
+  where
+    go : (t : Bool) → (if t then record { bytes = []; outcome = Done at } else refused 1 at) .outcome ≡ Done n
+        → at + length ((if t then record { bytes = []; outcome = Done at } else refused 1 at) .bytes) ≡ n
+    go true e = let q : at ≡ n = cc in omega arith
+    go false e = clash (cc)
+length-written (x ∷ xs) f at n e = go (endAt f) e (λ g raw. length-written xs g (at + length (bytesOf raw)) n)
+  where
+    go : (t : Bool) → (if t then refused 1 at else onPut (putOf f at x) (λ g raw. writeFrom xs g (at + length (bytesOf raw)))) .outcome ≡ Done n
+        → ((g : Field) (raw : ℕ) → writeFrom xs g (at + length (bytesOf raw)) .outcome ≡ Done n → at + length (bytesOf raw) + length (writeFrom xs g (at + length (bytesOf raw)) .bytes) ≡ n)
+        → at + length ((if t then refused 1 at else onPut (putOf f at x) (λ g raw. writeFrom xs g (at + length (bytesOf raw)))) .bytes) ≡ n
+    go true e ih = clash (cc)
+    go false e ih = length-put at n (putOf f at x) (λ g raw. writeFrom xs g (at + length (bytesOf raw))) ih e
+
 -- ---- the numbers of words, and their pack
+
+-- there are as many of them as are counted
+count-put : (k m : ℕ) (p : Put) (rest : Field → ℕ → Ran) → ((g : Field) (raw : ℕ) → rest g raw .outcome ≡ Done m → k + 1 + length (rest g raw .words) ≡ m)
+    → onNumber p rest .outcome ≡ Done m → k + length (onNumber p rest .words) ≡ m
+count-put k m (Fits g raw) rest ih e = omega (arith, ih g raw e)
+count-put k m (Bars i p) rest ih e = clash (cc)
+
+pub numbers-counted : (ws : List ℤ) (k : ℕ) (f : Field) (at m : ℕ) → numbersFrom ws k f at .outcome ≡ Done m → k + length (numbersFrom ws k f at .words) ≡ m
+unfolding numbersFrom
+numbers-counted [] k f at m e = go (endAt f) e
+  where
+    go : (t : Bool) → (if t then stops (Done k) else stops (Refuses 1 at)) .outcome ≡ Done m
+        → k + length ((if t then stops (Done k) else stops (Refuses 1 at)) .words) ≡ m
+    go true e = let q : k ≡ m = cc in omega arith
+    go false e = clash (cc)
+numbers-counted (x ∷ xs) k f at m e = go (endAt f) (λ g raw. numbers-counted xs (k + 1) g (at + length (bytesOf raw)) m) e
+  where
+    go : (t : Bool) → ((g : Field) (raw : ℕ) → numbersFrom xs (k + 1) g (at + length (bytesOf raw)) .outcome ≡ Done m
+          → k + 1 + length (numbersFrom xs (k + 1) g (at + length (bytesOf raw)) .words) ≡ m)
+        → (if t then stops (Refuses 1 at) else onNumber (putOf f at x) (λ g raw. numbersFrom xs (k + 1) g (at + length (bytesOf raw)))) .outcome ≡ Done m
+        → k + length ((if t then stops (Refuses 1 at) else onNumber (putOf f at x) (λ g raw. numbersFrom xs (k + 1) g (at + length (bytesOf raw)))) .words) ≡ m
+    go true ih e = clash (cc)
+    go false ih e = count-put k m (putOf f at x) (λ g raw. numbersFrom xs (k + 1) g (at + length (bytesOf raw))) ih e
 
 -- how the numbers of words end, after k words, by how writing them ends
 abbrev counted : ℕ → List ℤ → Outcome → Outcome
@@ -62,28 +107,27 @@ numbers-are (x ∷ xs) k f at = go (endAt f) (λ g raw. numbers-are xs (k + 1) g
     go false ih =
         by-put k x xs (putOf f at x) (λ g raw. writeFrom xs g (at + length (bytesOf raw))) (λ g raw. numbersFrom xs (k + 1) g (at + length (bytesOf raw))) ih
 
--- ---- the length that is answered is that of the bytes
-
-length-put : (at n : ℕ) (p : Put) (rest : Field → ℕ → Written) → ((g : Field) (raw : ℕ) → rest g raw .outcome ≡ Done n → at + length (bytesOf raw) + length (rest g raw .bytes) ≡ n)
-    → onPut p rest .outcome ≡ Done n → at + length (onPut p rest .bytes) ≡ n
-length-put at n (Fits g raw) rest ih e = omega (arith, ih g raw e, length-append (bytesOf raw) (rest g raw .bytes))
-length-put at n (Bars i p) rest ih e = clash (cc)
-
-pub length-written : (ws : List ℤ) (f : Field) (at n : ℕ) → writeFrom ws f at .outcome ≡ Done n → at + length (writeFrom ws f at .bytes) ≡ n
-unfolding writeFrom
-length-written [] f at n e = go (endAt f) e
+-- writing is done where the numbers are all there, and refuses as they do
+pub numbers-done : (ws : List ℤ) (f : Field) {k : ℕ} → numbersFrom ws 0 f 0 .outcome ≡ Done k
+    → writeFrom ws f 0 ≡ record { bytes = packed (numbersFrom ws 0 f 0 .words); outcome = Done (length (packed (numbersFrom ws 0 f 0 .words))) }
+numbers-done ws f {k} e = go (writeFrom ws f 0 .outcome) refl
   where
-    go : (t : Bool) → (if t then record { bytes = []; outcome = Done at } else refused 1 at) .outcome ≡ Done n
-        → at + length ((if t then record { bytes = []; outcome = Done at } else refused 1 at) .bytes) ≡ n
-    go true e = let q : at ≡ n = cc in omega arith
-    go false e = clash (cc)
-length-written (x ∷ xs) f at n e = go (endAt f) e (λ g raw. length-written xs g (at + length (bytesOf raw)) n)
+    n : Numbers 0 ws (writeFrom ws f 0) (numbersFrom ws 0 f 0)
+    n = numbers-are ws 0 f 0
+
+    go : (o : Outcome) → writeFrom ws f 0 .outcome ≡ o
+        → writeFrom ws f 0 ≡ record { bytes = packed (numbersFrom ws 0 f 0 .words); outcome = Done (length (packed (numbersFrom ws 0 f 0 .words))) }
+    go (Done m) q =
+        let l : length (packed (numbersFrom ws 0 f 0 .words)) ≡ m = omega (arith, length-written ws f 0 m q, ap length (n .bytes)) in
+        λ i. record { bytes = sym (n .bytes) i; outcome = (q ∙ ap Done (sym l)) i }
+    go (Refuses number place) q = let r : counted 0 ws (Refuses number place) ≡ Done k = rw q at (sym (n .ends) ∙ e) in clash (cc)
+
+pub numbers-refused : (ws : List ℤ) (f : Field) {number place : ℕ} → numbersFrom ws 0 f 0 .outcome ≡ Refuses number place → writeFrom ws f 0 .outcome ≡ Refuses number place
+numbers-refused ws f {number} {place} e = go (writeFrom ws f 0 .outcome) (sym (numbers-are ws 0 f 0 .ends) ∙ e)
   where
-    go : (t : Bool) → (if t then refused 1 at else onPut (putOf f at x) (λ g raw. writeFrom xs g (at + length (bytesOf raw)))) .outcome ≡ Done n
-        → ((g : Field) (raw : ℕ) → writeFrom xs g (at + length (bytesOf raw)) .outcome ≡ Done n → at + length (bytesOf raw) + length (writeFrom xs g (at + length (bytesOf raw)) .bytes) ≡ n)
-        → at + length ((if t then refused 1 at else onPut (putOf f at x) (λ g raw. writeFrom xs g (at + length (bytesOf raw)))) .bytes) ≡ n
-    go true e ih = clash (cc)
-    go false e ih = length-put at n (putOf f at x) (λ g raw. writeFrom xs g (at + length (bytesOf raw))) ih e
+    go : (o : Outcome) → counted 0 ws o ≡ Refuses number place → o ≡ Refuses number place
+    go (Done m) q = clash (cc)
+    go (Refuses i p) q = q
 
 -- ---- room
 

@@ -6,14 +6,15 @@ use mathlib.Core.List.{List, _∷_}
 use native.Mathlib.Omega.{arith}
 use lib.IntN.{ℤ, pos}
 use lib.Ieee.{Float, nan}
-use lib.ListN.{length, getD, take, drop, replicate, length-replicate}
-use lib.Seq.{sets, sets-eq, take-at}
+use lib.ListN.{getD, take, replicate}
+use lib.Seq.{sets}
 use Rattle.packs.specs.declared.Outcome.the-variants.{Done}
-use Rattle.packs.specs.Writing.{Written, refused, roomed}
+use Rattle.packs.specs.Writing.{Written, refused}
 use Rattle.jobs.specs.Job.{Job}
 use Rattle.jobs.specs.Words.{jobOf}
-use Rattle.jobs.specs.Packs.{readJob, writeProposal}
-use Rattle.jobs.proofs.Readings.{read-jobs-allowed, read-jobs-laid, read-words-counted, read-words-few}
+use Rattle.jobs.specs.Packs.{readJob}
+use Rattle.jobs.proofs.Readings.{read-jobs-allowed, read-jobs-laid}
+use Rattle.jobs.proofs.Handed.{scratch-part}
 use Rattle.house.specs.declared.factor.Ending.the-variants.{Whole, Thin}
 use Rattle.house.specs.declared.proposal.Solved.{Solved}
 use Rattle.house.specs.Known.{Known}
@@ -24,19 +25,12 @@ use Rattle.house.proofs.Fills.{take-filled}
 -- ---- the words of the job
 
 module _ (s : List ℕ) {k : ℕ} (e : readJob s .outcome ≡ Done k) {scratch : List ℤ} (stored : scratch ≡ sets (replicate 2087 (pos 0)) 0 (readJob s .words)) where
-  part-is : take (k - 0) scratch ≡ readJob s .words
-  part-is =
-      let count : length (readJob s .words) ≡ k - 0 = omega (arith, read-words-counted s k e) in
-      let room : 0 + length (readJob s .words) ≤ length (replicate 2087 (pos 0)) = omega (arith, length-replicate 2087 (pos 0), read-words-few s k e) in
-      ap (take (k - 0)) (stored ∙ sets-eq (readJob s .words) (replicate 2087 (pos 0)) 0 room)
-      ∙ take-at (readJob s .words) (drop (0 + length (readJob s .words)) (replicate 2087 (pos 0))) (k - 0) count
-
   pub part-known : Known (take (k - 0) scratch)
-  part-known = rw part-is (record { allowed = read-jobs-allowed s k e; laid = read-jobs-laid s k e })
+  part-known = rw (scratch-part s e stored) (record { allowed = read-jobs-allowed s k e; laid = read-jobs-laid s k e })
 
   pub part-proposed : (room : ℕ) → proposedOf room (jobOf (take (k - 0) scratch)) ≡ proposeOf room s
   part-proposed room =
-      ap {B = Written} (λ (ws : List ℤ). proposedOf room (jobOf ws)) part-is ∙ ap {B = Written} (onRead room (readJob s .words)) (sym e)
+      ap {B = Written} (λ (ws : List ℤ). proposedOf room (jobOf ws)) (scratch-part s e stored) ∙ ap {B = Written} (onRead room (readJob s .words)) (sym e)
 
 -- ---- the case that the factoring's ending picks
 
@@ -58,12 +52,12 @@ take-zeros zero k h = refl
 take-zeros (suc m) zero h = absurd (omega arith)
 take-zeros (suc m) (suc k) h = ap (λ (xs : List ℤ). pos 0 ∷ xs) (take-zeros m k (omega arith))
 
-pub part-written : (room : ℕ) (j : Job) (v : List Float) {n l : ℕ} {ws : List ℤ} → n ≡ j .cells → l ≡ j .links → n + l ≤ 280
-    → ws ≡ filled (λ i. valueOf j i (getD v i nan)) n 0 (replicate 280 (pos 0)) → roomed room (writeProposal n l (take (n + l - 0) ws)) ≡ writtenOf room j v
+pub part-words : (j : Job) (v : List Float) {n l : ℕ} {ws : List ℤ} → n ≡ j .cells → l ≡ j .links → n + l ≤ 280
+    → ws ≡ filled (λ i. valueOf j i (getD v i nan)) n 0 (replicate 280 (pos 0)) → take (n + l - 0) ws ≡ wordsOf j v
 unfolding wordsOf
-part-written room j v {n} {l} {ws} en el h ew =
+part-words j v {n} {l} {ws} en el h ew =
     let less : n + l - 0 ≡ n + l = omega arith in
     let f : ℕ → ℤ = λ i. valueOf j i (getD v i nan) in
     let p : take (n + l - 0) ws ≡ filled f n 0 (replicate (n + l) (pos 0)) =
     rw (less, ew) (take-filled f n 0 (n + l) (replicate 280 (pos 0)) (omega arith) ∙ ap (filled f n 0) (take-zeros (n + l) 280 h)) in
-    rw (p, en, el)
+    p ∙ rw (en, el)

@@ -97,7 +97,7 @@ fn write_values(words: &[i64], v: [f64; CELLS], out: &mut [u8]) -> Outcome
     let links = links_of(words, n);
     let values = values_of(words, n, &v);
     let count = n + links;
-    jobs::proposal::write_proposal(&values[0..count], n as u64, links as u64, out)
+    packs::writing::put(&values[0..count], out)
 }
 
 // The proposal for the words of a job that was read.
@@ -116,7 +116,7 @@ pub fn propose_for(words: &[i64], out: &mut [u8]) -> Outcome
     }
 }
 
-// The house proposal for a job pack. A refusal writes nothing; room is tested last. A call takes about 30 KB of stack (29,400 bytes compiled at -O3
+// The house proposal for a job pack. A refusal writes nothing; room is tested last. A call takes about 30 KB of stack (29,024 bytes compiled at -O3
 // on x86-64), of which the job's words are 16,696.
 pub fn propose(job: &[u8], out: &mut [u8]) -> Outcome
     ensures { λ r. ⌜ (r ≡ proposeOf (length (now (out .entry))) (now (job .entry)) .outcome) × (now (out .exit) ≡ sets (now (out .entry)) 0 (proposeOf (length (now (out .entry))) (now (job .entry)) .bytes)) ⌝ }

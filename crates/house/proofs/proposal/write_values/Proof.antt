@@ -3,7 +3,8 @@ use native.Mathlib.Omega.{arith}
 use denote.Ref.{now}
 use lib.ListN.{length}
 use Rattle.jobs.specs.Words.{jobOf}
-use Rattle.house.proofs.Handing.{part-written}
+use Rattle.house.proofs.Handing.{part-words}
+use Rattle.house.proofs.Writable.{house-packs}
 use Rattle.house.proofs.Told.{cells-few, links-few}
 use borrow.Author.Needs.{needs}
 use Rattle.house.proofs.proposal.write_values.Statement.{statement}
@@ -21,17 +22,17 @@ values-of-requires c κs = search needs
 add-count : tie.Need-add-count
 add-count c = search needs
 
-sub-write-proposal : tie.Need-sub-write-proposal
-sub-write-proposal c = search needs
+sub-put : tie.Need-sub-put
+sub-put c = search needs
 
-part-write-proposal-start : tie.Need-part-write-proposal-start
-part-write-proposal-start c = search needs
+part-put-start : tie.Need-part-put-start
+part-put-start c = search needs
 
-part-write-proposal-end : tie.Need-part-write-proposal-end
-part-write-proposal-end c = search needs
+part-put-end : tie.Need-part-put-end
+part-put-end c = search needs
 
-write-proposal-requires : tie.Need-write-proposal-requires
-write-proposal-requires c κs = search needs
+put-requires : tie.Need-put-requires
+put-requires c κs = search needs
 
 same-length : tie.Need-same-length
 same-length c = search needs
@@ -41,7 +42,8 @@ returns c =
     let s = c .before .before .before .before .before .before .before .before .before .before .before in
     let n = c .before .before .before .before .before .before .before .before .before .cells-of .ensures in
     let l = c .before .before .before .before .before .before .before .before .links-of .ensures in
-    rw (← part-written (length (now (s .args .out))) (jobOf (s .args .words .now)) (s .args .t2) n l (omega (arith, n, l, cells-few (s .pre), links-few (s .pre))) (c .before .before .before .before .before .before .values-of .ensures)) (c .before .before .write-proposal .ensures)
+    let p = part-words (jobOf (s .args .words .now)) (s .args .t2) n l (omega (arith, n, l, cells-few (s .pre), links-few (s .pre))) (c .before .before .before .before .before .before .values-of .ensures) in
+    rw (← house-packs (jobOf (s .args .words .now)) (s .pre .allowed) (s .args .t2) (length (now (s .args .out))), ← p) (c .before .before .put .ensures)
 
 pub write-values-spec : {M : Type 1} → statement M
 write-values-spec =
@@ -51,9 +53,9 @@ write-values-spec =
     links-of-requires
     values-of-requires
     add-count
-    sub-write-proposal
-    part-write-proposal-start
-    part-write-proposal-end
-    write-proposal-requires
+    sub-put
+    part-put-start
+    part-put-end
+    put-requires
     same-length
     returns)

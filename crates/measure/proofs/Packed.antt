@@ -5,9 +5,9 @@ use mathlib.Core.Path.{_≡_, sym, ap, ap₂, subst, _∙_}
 use mathlib.Core.List.{List}
 use native.Mathlib.Nat.{zero-add}
 use native.Mathlib.Omega.{arith}
-use lib.IntN.{ℤ, pos}
-use lib.ListN.{length, take, drop, replicate, length-replicate}
-use lib.Seq.{sets, sets-eq, length-sets, take-at}
+use lib.IntN.{ℤ}
+use lib.ListN.{length, take}
+use lib.Seq.{sets}
 use Rattle.fields.specs.Table.{valuesFrom}
 use Rattle.packs.specs.declared.Outcome.{Outcome}
 use Rattle.packs.specs.declared.Outcome.the-variants.{Done, Refused as Refuses}
@@ -16,31 +16,23 @@ use Rattle.jobs.specs.Words.{wordAt, cellsOf, linksOf, jobOf}
 use Rattle.jobs.specs.Allowed.{Allowed, Laid, Proposed}
 use Rattle.jobs.specs.Packs.{readJob, readProposal}
 use Rattle.jobs.proofs.Steps.{read-whole}
-use Rattle.jobs.proofs.Handed.{six-done}
+use Rattle.jobs.proofs.Handed.{six-done, held-room, held-part}
 use Rattle.jobs.proofs.Readings.{read-jobs-allowed, read-jobs-laid, read-words-counted, read-words-few, read-proposals-proposed}
 use Rattle.measure.specs.declared.check.Verdict.{Verdict}
 use Rattle.measure.specs.declared.check.Verdict.the-variants.{Refused}
-use Rattle.measure.specs.Check.{multipliersOf, verdictOf, onRead, proposalVerdict, checkOf}
+use Rattle.measure.specs.Check.{multipliersOf, verdictOf, onRead, proposalVerdict, ifRead, proposalWords, checkOf}
 use Rattle.measure.specs.Given.{Given}
 use Rattle.measure.specs.OnWords.{verdictOn}
-
--- ---- the head of lent words
-
-module _ (room k : ℕ) {l : List ℤ} (ws : List ℤ) (e : k ≡ length ws) (h : k ≤ room) (q : l ≡ sets (replicate room (pos 0)) 0 ws) where
-  head-room : k ≤ length l
-  head-room = subst (λ (n : ℕ). k ≤ n) (sym (ap length q ∙ length-sets (replicate room (pos 0)) 0 ws ∙ length-replicate room (pos 0))) h
-
-  head-is : take k l ≡ ws
-  head-is =
-      ap (take k) (q ∙ sets-eq ws (replicate room (pos 0)) 0 (rw (length-replicate room (pos 0)) (omega arith)))
-      ∙ take-at ws (drop (0 + length ws) (replicate room (pos 0))) k (sym e)
 
 -- ---- a proposal
 
 module _ {ws : List ℤ} (A : Allowed (jobOf ws)) (L : Laid ws) {n links : ℕ} (en : n ≡ cellsOf ws) (el : links ≡ linksOf ws) (s : List ℕ)
-    {o : Outcome} {l : List ℤ} (eo : o ≡ readProposal n links s .outcome) (q : l ≡ sets (replicate 280 (pos 0)) 0 (readProposal n links s .words)) where
+    {o : Outcome} (l₀ : List ℤ) {l : List ℤ} (long : length l₀ ≡ 280) (eo : o ≡ readProposal n links s .outcome) (q : l ≡ sets l₀ 0 (readProposal n links s .words)) where
   outcome-is : readProposal (cellsOf ws) (linksOf ws) s .outcome ≡ o
   outcome-is = ap₂ (λ (a b : ℕ). readProposal a b s .outcome) (sym en) (sym el) ∙ sym eo
+
+  pub proposal-left : l ≡ sets l₀ 0 (readProposal (cellsOf ws) (linksOf ws) s .words)
+  proposal-left = q ∙ ap₂ (λ (a b : ℕ). sets l₀ 0 (readProposal a b s .words)) en el
 
   abbrev answered : Outcome → Verdict
   answered o = onRead o (verdictOf (jobOf ws) (wordAt (readProposal (cellsOf ws) (linksOf ws) s .words)) (multipliersOf (cellsOf ws) (readProposal (cellsOf ws) (linksOf ws) s .words)))
@@ -60,15 +52,12 @@ module _ {ws : List ℤ} (A : Allowed (jobOf ws)) (L : Laid ws) {n links : ℕ} 
     few : k ≤ 280
     few = omega (arith, counted, proposed .count, A .cells-few, A .links-few)
 
-    words-are : l ≡ sets (replicate 280 (pos 0)) 0 (readProposal (cellsOf ws) (linksOf ws) s .words)
-    words-are = q ∙ ap₂ (λ (a b : ℕ). sets (replicate 280 (pos 0)) 0 (readProposal a b s .words)) en el
-
     head : take k l ≡ readProposal (cellsOf ws) (linksOf ws) s .words
-    head = head-is 280 k (readProposal (cellsOf ws) (linksOf ws) s .words) counted few words-are
+    head = held-part l₀ long (readProposal (cellsOf ws) (linksOf ws) s .words) (sym counted) few proposal-left
 
     pub proposal-asked : (k ≤ length l) × Given ws (take k l)
     proposal-asked = (
-      head-room 280 k (readProposal (cellsOf ws) (linksOf ws) s .words) counted few words-are,
+      held-room l₀ long (readProposal (cellsOf ws) (linksOf ws) s .words) (sym counted) few proposal-left,
       record { allowed = A; laid = L; proposed = subst (λ (ps : List ℤ). Proposed (cellsOf ws) (linksOf ws) ps) (sym head) proposed },
     )
 
@@ -78,20 +67,24 @@ module _ {ws : List ℤ} (A : Allowed (jobOf ws)) (L : Laid ws) {n links : ℕ} 
 
 -- ---- a job
 
-module _ (s proposal : List ℕ) {o : Outcome} {l : List ℤ} (eo : o ≡ readJob s .outcome) (q : l ≡ sets (replicate 2087 (pos 0)) 0 (readJob s .words)) where
+module _ (s proposal : List ℕ) {o : Outcome} (l₀ : List ℤ) {l : List ℤ} (long : length l₀ ≡ 2087) (eo : o ≡ readJob s .outcome) (q : l ≡ sets l₀ 0 (readJob s .words)) where
   pub job-refused : {number place : ℕ} → o ≡ Refuses number place → Refused number place ≡ checkOf s proposal
   job-refused u = ap (λ (o : Outcome). onRead o (proposalVerdict (jobOf (readJob s .words)) proposal)) (sym (sym eo ∙ u))
+
+  pub refused-left : {number place : ℕ} → o ≡ Refuses number place → (p : List ℤ) → p ≡ sets p 0 (proposalWords s proposal)
+  refused-left u p =
+      ap (λ (o : Outcome). sets p 0 (ifRead o (readProposal (jobOf (readJob s .words) .cells) (jobOf (readJob s .words) .links) proposal .words))) (sym (sym eo ∙ u))
 
   module _ {k : ℕ} (u : o ≡ Done k) where
     few-words : k ≤ 2087
     few-words = omega (arith, read-words-counted s k (sym eo ∙ u), read-words-few s k (sym eo ∙ u))
 
     job-head : take k l ≡ readJob s .words
-    job-head = head-is 2087 k (readJob s .words) (read-words-counted s k (sym eo ∙ u)) few-words q
+    job-head = held-part l₀ long (readJob s .words) (sym (read-words-counted s k (sym eo ∙ u))) few-words q
 
     pub job-asked : (k ≤ length l) × (Allowed (jobOf (take k l)) × Laid (take k l))
     job-asked = (
-      head-room 2087 k (readJob s .words) (read-words-counted s k (sym eo ∙ u)) few-words q,
+      held-room l₀ long (readJob s .words) (sym (read-words-counted s k (sym eo ∙ u))) few-words q,
       subst (λ (ws : List ℤ). Allowed (jobOf ws) × Laid ws) (sym job-head) (read-jobs-allowed s k (sym eo ∙ u), read-jobs-laid s k (sym eo ∙ u)),
     )
 
@@ -99,3 +92,8 @@ module _ (s proposal : List ℕ) {o : Outcome} {l : List ℤ} (eo : o ≡ readJo
     job-answer t =
         t ∙ ap (λ (ws : List ℤ). proposalVerdict (jobOf ws) proposal) job-head
         ∙ ap (λ (o : Outcome). onRead o (proposalVerdict (jobOf (readJob s .words)) proposal)) (sym (sym eo ∙ u))
+
+    pub job-left : (p₀ : List ℤ) {p : List ℤ} → p ≡ sets p₀ 0 (readProposal (cellsOf (take k l)) (linksOf (take k l)) proposal .words) → p ≡ sets p₀ 0 (proposalWords s proposal)
+    job-left p₀ t =
+        t ∙ ap (λ (ws : List ℤ). sets p₀ 0 (readProposal (cellsOf ws) (linksOf ws) proposal .words)) job-head
+        ∙ ap (λ (o : Outcome). sets p₀ 0 (ifRead o (readProposal (cellsOf (readJob s .words)) (linksOf (readJob s .words)) proposal .words))) (sym (sym eo ∙ u))

@@ -1,7 +1,7 @@
 -- Document 01, "Order": the check of a proposal, from two packs to its verdict: the job pack's refusals, then 6, 7 (lowest cell), 8 (lowest link), 9.
 use Prim.Native.Nat.{ℕ, zero, suc, _+_}
 use mathlib.Core.Bool.{Bool, _&&_}
-use mathlib.Core.List.{List}
+use mathlib.Core.List.{List, []}
 use lib.Dec.{ltb}
 use lib.IntN.{ℤ}
 use lib.Signed.{leZ}
@@ -59,6 +59,15 @@ abbrev pub proposalVerdict : Job → (proposal : List ℕ) → Verdict
 proposalVerdict j proposal =
     onRead (readProposal (j .cells) (j .links) proposal .outcome)
     (verdictOf j (valuesOf (readProposal (j .cells) (j .links) proposal .words)) (multipliersOf (j .cells) (readProposal (j .cells) (j .links) proposal .words)))
+
+-- The numbers of a proposal pack, read for the counts of a job pack; none where the job is refused.
+abbrev pub ifRead : Outcome → List ℤ → List ℤ
+ifRead (Done k) ws = ws
+ifRead (Refuses number place) ws = []
+
+abbrev pub proposalWords : (job proposal : List ℕ) → List ℤ
+proposalWords job proposal =
+    ifRead (readJob job .outcome) (readProposal (jobOf (readJob job .words) .cells) (jobOf (readJob job .words) .links) proposal .words)
 
 -- The check of a proposal pack against a job pack.
 abbrev pub checkOf : (job proposal : List ℕ) → Verdict

@@ -12,9 +12,11 @@ use packs::Outcome;
 ghost use mathlib.Core.Path.{_≡_};
 ghost use Prim.Native.Nat.{_≤_, _<_};
 ghost use lib.ListN.{length, take};
-ghost use Rattle.jobs.specs.Words.{jobOf};
+ghost use lib.Seq.{sets};
+ghost use Rattle.jobs.specs.Packs.{readJob, readProposal};
+ghost use Rattle.jobs.specs.Words.{cellsOf, linksOf, jobOf};
 ghost use Rattle.jobs.specs.Allowed.{Allowed, Laid};
-ghost use Rattle.measure.specs.Check.{proposalVerdict, checkOf};
+ghost use Rattle.measure.specs.Check.{proposalVerdict, proposalWords, checkOf};
 ghost use Rattle.measure.specs.Given.{Given, Weighing, Boxes, Judging};
 ghost use Rattle.measure.specs.OnWords.{judgedOn, verdictOn};
 
@@ -99,37 +101,49 @@ fn check_first(words: &[i64], proposal: &[i64], k: usize) -> Verdict
     check_words(words, &proposal[0..k])
 }
 
-// The verdict on a proposal pack, against a job's words.
-fn check_pack(words: &[i64], proposal: &[u8]) -> Verdict
-    requires { ⌜ Allowed (jobOf (now words)) × Laid (now words) ⌝ }
-    ensures { λ a. ⌜ a ≡ proposalVerdict (jobOf (now (words .entry))) (now (proposal .entry)) ⌝ }
+// The verdict on a proposal pack, against a job's words; `values` gets the proposal's words.
+fn check_pack(words: &[i64], proposal: &[u8], values: &mut [i64]) -> Verdict
+    requires { ⌜ Allowed (jobOf (now words)) × Laid (now words) × (length (now values) ≡ 280) ⌝ }
+    ensures { λ a. ⌜ (a ≡ proposalVerdict (jobOf (now (words .entry))) (now (proposal .entry))) × (now (values .exit) ≡ sets (now (values .entry)) 0 (readProposal (cellsOf (now (words .entry))) (linksOf (now (words .entry))) (now (proposal .entry)) .words)) ⌝ }
 {
     let n = words::cells_of(words);
     let links = words::links_of(words, n);
-    let mut values = [0i64; 280];
-    let read = read_proposal(proposal, n as u64, links as u64, &mut values);
+    let read = read_proposal(proposal, n as u64, links as u64, values);
     match read {
-        Outcome::Done(k) => check_first(words, &values, k),
+        Outcome::Done(k) => check_first(words, values, k),
         Outcome::Refused(number, place) => Verdict::Refused { number, place },
     }
 }
 
 // The verdict on a proposal pack, against the first k words.
-fn check_part(words: &[i64], k: usize, proposal: &[u8]) -> Verdict
-    requires { ⌜ (k ≤ length (now words)) × (Allowed (jobOf (take k (now words))) × Laid (take k (now words))) ⌝ }
-    ensures { λ a. ⌜ a ≡ proposalVerdict (jobOf (take k (now (words .entry)))) (now (proposal .entry)) ⌝ }
+fn check_part(words: &[i64], k: usize, proposal: &[u8], values: &mut [i64]) -> Verdict
+    requires { ⌜ (k ≤ length (now words)) × (Allowed (jobOf (take k (now words))) × Laid (take k (now words))) × (length (now values) ≡ 280) ⌝ }
+    ensures { λ a. ⌜ (a ≡ proposalVerdict (jobOf (take k (now (words .entry)))) (now (proposal .entry))) × (now (values .exit) ≡ sets (now (values .entry)) 0 (readProposal (cellsOf (take k (now (words .entry)))) (linksOf (take k (now (words .entry)))) (now (proposal .entry)) .words)) ⌝ }
 {
-    check_pack(&words[0..k], proposal)
+    check_pack(&words[0..k], proposal, values)
 }
 
-// The check of a proposal pack against a job pack.
+// The check of a proposal pack against a job pack. The words of both go into what is lent, also those before a refusal: lend it room of your own.
+pub fn check_into(
+    job: &[u8],
+    proposal: &[u8],
+    words: &mut [i64; 2087],
+    values: &mut [i64; 280],
+) -> Verdict
+    ensures { λ r. ⌜ (r ≡ checkOf (now (job .entry)) (now (proposal .entry))) × (now (words .exit) ≡ sets (now (words .entry)) 0 (readJob (now (job .entry)) .words)) × (now (values .exit) ≡ sets (now (values .entry)) 0 (proposalWords (now (job .entry)) (now (proposal .entry)))) ⌝ }
+{
+    let read = packs::reading::read(job, Field::Society, words);
+    match read {
+        Outcome::Done(k) => check_part(words, k, proposal, values),
+        Outcome::Refused(number, place) => Verdict::Refused { number, place },
+    }
+}
+
+// The same, with room of its own.
 pub fn check(job: &[u8], proposal: &[u8]) -> Verdict
     ensures { λ r. ⌜ r ≡ checkOf (now (job .entry)) (now (proposal .entry)) ⌝ }
 {
     let mut words = [0i64; 2087];
-    let read = packs::reading::read(job, Field::Society, &mut words);
-    match read {
-        Outcome::Done(k) => check_part(&words, k, proposal),
-        Outcome::Refused(number, place) => Verdict::Refused { number, place },
-    }
+    let mut values = [0i64; 280];
+    check_into(job, proposal, &mut words, &mut values)
 }

@@ -18,9 +18,8 @@ use Rattle.jobs.specs.Words.{cellsOf}
 use Rattle.jobs.specs.Packs.{readJob}
 use Rattle.measure.specs.declared.check.Verdict.{Verdict}
 use Rattle.measure.specs.declared.check.Verdict.the-variants.{Accepted, Refused}
-use Rattle.measure.specs.Check.{checkOf}
+use Rattle.measure.specs.Check.{proposalWords, checkOf}
 use Rattle.shelf.specs.Checked.{checkedOf}
-use Rattle.shelf.specs.Given.{rates}
 use Rattle.shelf.specs.Slots.{overwritten}
 use Rattle.shelf.proofs.Packs.{given-packs}
 use Rattle.line.specs.Line.{printed, checkedLine, packsLine, lineOf}
@@ -35,11 +34,12 @@ checked-fits job proposal = go (checkOf job proposal) refl
     go : (v : Verdict) → checkOf job proposal ≡ v → length (checkedLine (checkedOf job proposal)) ≤ 1024
     go (Accepted F G) e =
         let words = sets (replicate 2087 (pos 0)) 0 (readJob job .words) in
-        let given = given-packs job proposal F G e words refl in
+        let rates = sets (replicate 280 (pos 0)) 0 (proposalWords job proposal) in
+        let given = given-packs job proposal F G e words refl rates refl in
         omega (
           arith,
-          ap length (accepted-line job proposal F G e words refl (natAbs F) (natAbs G) refl refl),
-          words-fit words (rates words proposal) (cellsOf words) (natAbs F) (natAbs G) (given .job) (given .values),
+          ap length (accepted-line job proposal F G e words refl rates refl),
+          words-fit words rates (cellsOf words) (natAbs F) (natAbs G) (given .job) (given .values),
         )
     go (Refused number place) e = omega (arith, ap length (refused-line job proposal number place e), two-fit number place)
 

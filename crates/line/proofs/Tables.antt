@@ -6,14 +6,14 @@ use native.Mathlib.Omega.{arith}
 use lib.IntN.{ℤ, pos, natAbs}
 use lib.ListN.{length, replicate}
 use lib.Seq.{sets}
-use Rattle.jobs.specs.Words.{countAt, cellsOf, jobOf}
+use Rattle.jobs.specs.Words.{countAt, cellsOf}
 use Rattle.jobs.specs.Packs.{readJob}
 use Rattle.measure.specs.declared.check.Verdict.{Verdict}
 use Rattle.measure.specs.declared.check.Verdict.the-variants.{Accepted, Refused}
-use Rattle.measure.specs.Check.{checkOf}
-use Rattle.shelf.specs.Checked.{checkedOf, valuesOf}
-use Rattle.shelf.specs.Given.{JobWords, Rates, rates, firstValues}
-use Rattle.shelf.proofs.Packs.{same-count, same-rates}
+use Rattle.measure.specs.Check.{proposalWords, checkOf}
+use Rattle.shelf.specs.Checked.{checkedOf}
+use Rattle.shelf.specs.Given.{JobWords, Rates, firstValues}
+use Rattle.shelf.proofs.Packs.{packs-name}
 use Rattle.line.specs.Line.{later, printed, verdictLine, checkedLine}
 use Rattle.line.specs.Puts.{Puts, Room, headFields}
 use Rattle.line.proofs.Stores.{puts-then, puts-same, room-first, room-then, room-same}
@@ -51,15 +51,12 @@ module _ {words rates : List ℤ} {n : ℕ} (J : JobWords words) (R : Rates n ra
 
 -- ---- two packs that the check has accepted
 module _ (job proposal : List ℕ) (F G : ℤ) (e : checkOf job proposal ≡ Accepted F G)
-    (scratch : List ℤ) (stored : scratch ≡ sets (replicate 2087 (pos 0)) 0 (readJob job .words)) where
-  pub accepted-line : (f g : ℕ) → f ≡ natAbs F → g ≡ natAbs G → tableLine scratch (rates scratch proposal) (cellsOf scratch) f g ≡ checkedLine (checkedOf job proposal)
+    (scratch : List ℤ) (stored : scratch ≡ sets (replicate 2087 (pos 0)) 0 (readJob job .words))
+    (read : List ℤ) (kept : read ≡ sets (replicate 280 (pos 0)) 0 (proposalWords job proposal)) where
+  pub accepted-line : tableLine scratch read (cellsOf scratch) (natAbs F) (natAbs G) ≡ checkedLine (checkedOf job proposal)
   unfolding checkedOf checkedLine
-  accepted-line f g p q =
-      let ws = readJob job .words in
-      let count = same-count job proposal F G e scratch stored in
-      ap₂ (λ (a b : ℕ). tableLine scratch (rates scratch proposal) (cellsOf scratch) a b) p q
-      ∙ ap₂ (λ (n : ℕ) (r : List ℤ). tableLine scratch r n (natAbs F) (natAbs G)) (count 2) (same-rates job proposal F G e scratch stored)
-      ∙ ap₂ (λ (a b : ℕ). printed 0 (a ∷ b ∷ natAbs F ∷ natAbs G ∷ valuesOf (jobOf ws) proposal)) (count 0) (count 1)
+  accepted-line =
+      packs-name job proposal F G e scratch stored read kept (λ s j vs. printed 0 (s ∷ j ∷ natAbs F ∷ natAbs G ∷ vs))
       ∙ sym (ap (λ (v : Verdict). verdictLine v (checkedOf job proposal)) e)
 
 -- ---- and two that it has refused

@@ -13,8 +13,9 @@ mod parted;
 mod table;
 
 use crate::parted::put_two;
-use crate::table::put_accepted;
+use crate::table::put_table;
 use measure::check::Verdict;
+use measure::check::check_into;
 use numbers::plain::Number;
 
 // The most bytes that the program reads, and the same as the place of a longer input.
@@ -27,9 +28,11 @@ fn put_check(job: &[u8], proposal: &[u8], out: &mut [u8]) -> usize
     requires { ⌜ 1024 ≤ length (now out) ⌝ }
     ensures { λ r. ⌜ Puts (checkedLine (checkedOf (now (job .entry)) (now (proposal .entry)))) (now (out .entry)) 0 r (now (out .exit)) ⌝ }
 {
-    let verdict = measure::check::check(job, proposal);
+    let mut words = [0i64; 2087];
+    let mut rates = [0i64; 280];
+    let verdict = check_into(job, proposal, &mut words, &mut rates);
     match verdict {
-        Verdict::Accepted { loss, gap } => put_accepted(job, proposal, loss, gap, out),
+        Verdict::Accepted { loss, gap } => put_table(&words, &rates, loss, gap, out),
         Verdict::Refused { number, place } => put_two(number, place as u64, out),
     }
 }

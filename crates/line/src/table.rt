@@ -1,20 +1,16 @@
-// The line of an accepted table: what the two packs name, after the check's verdict.
-ghost use mathlib.Core.Path.{_≡_};
+// The line of an accepted table: what the words of the two packs name, after the check's verdict.
 ghost use Prim.Native.Nat.{_≤_};
 ghost use mathlib.Core.List.{_∷_};
+ghost use lib.IntN.{natAbs};
 ghost use lib.ListN.{length};
 ghost use Rattle.jobs.specs.Words.{countAt, cellsOf};
-ghost use Rattle.measure.specs.declared.check.Verdict.the-variants.{Accepted};
-ghost use Rattle.measure.specs.Check.{checkOf};
-ghost use Rattle.shelf.specs.Checked.{checkedOf};
-ghost use Rattle.shelf.specs.Given.{JobWords, Rates, Given, rates, firstValues};
-ghost use Rattle.line.specs.Line.{printed, checkedLine};
+ghost use Rattle.shelf.specs.Given.{JobWords, Rates, Given, firstValues};
+ghost use Rattle.line.specs.Line.{printed};
 ghost use Rattle.line.specs.Puts.{Puts, Room, headFields};
 use crate::decimal::put_number;
 use crate::parted::put_end;
 use crate::parted::put_field;
 use crate::parted::put_values;
-use fields::Field;
 use numbers::zigzag::size_of;
 use shelf::accepted::count_at;
 
@@ -42,27 +38,13 @@ fn put_rates(words: &[i64], rates: &[i64], n: usize, loss: u64, gap: u64, out: &
     put_end(end, out)
 }
 
-// The line of a proposal pack's values, for a job's words.
-fn put_words(words: &[i64], proposal: &[u8], loss: u64, gap: u64, out: &mut [u8]) -> usize
-    requires { ⌜ Given (now words) (now proposal) × (1024 ≤ length (now out)) ⌝ }
-    ensures { λ r. ⌜ Puts (printed 0 (countAt (now (words .entry)) 0 ∷ countAt (now (words .entry)) 1 ∷ loss ∷ gap ∷ firstValues (cellsOf (now (words .entry))) (rates (now (words .entry)) (now (proposal .entry))))) (now (out .entry)) 0 r (now (out .exit)) ⌝ }
+// The line of a table that the check has accepted with that loss and gap: the numbers of a proposal, for a job's words.
+pub fn put_table(words: &[i64], rates: &[i64], loss: i64, gap: i64, out: &mut [u8]) -> usize
+    requires { ⌜ Given (now words) (now rates) × (1024 ≤ length (now out)) ⌝ }
+    ensures { λ r. ⌜ Puts (printed 0 (countAt (now (words .entry)) 0 ∷ countAt (now (words .entry)) 1 ∷ natAbs loss ∷ natAbs gap ∷ firstValues (cellsOf (now (words .entry))) (now (rates .entry)))) (now (out .entry)) 0 r (now (out .exit)) ⌝ }
 {
-    let n = count_at(words, 2);
-    let at = 6 + 4 * (n as usize);
-    let links = count_at(words, at);
-    let mut read = [0i64; 280];
-    jobs::proposal::read_proposal(proposal, n, links, &mut read);
-    put_rates(words, &read, n as usize, loss, gap, out)
-}
-
-// The line of two packs that the check has accepted with that loss and gap.
-pub fn put_accepted(job: &[u8], proposal: &[u8], loss: i64, gap: i64, out: &mut [u8]) -> usize
-    requires { ⌜ (checkOf (now job) (now proposal) ≡ Accepted loss gap) × (1024 ≤ length (now out)) ⌝ }
-    ensures { λ r. ⌜ Puts (checkedLine (checkedOf (now (job .entry)) (now (proposal .entry)))) (now (out .entry)) 0 r (now (out .exit)) ⌝ }
-{
-    let mut words = [0i64; 2087];
-    packs::reading::read(job, Field::Society, &mut words);
     let f = size_of(loss);
     let g = size_of(gap);
-    put_words(&words, proposal, f, g, out)
+    let n = count_at(words, 2);
+    put_rates(words, rates, n as usize, f, g, out)
 }

@@ -1,23 +1,24 @@
 -- An accepted table goes to the shelf as its packs have it: what was read of them stands in front of zeros, so its counts and values are the packs'.
-use mathlib.Core.Path.{_≡_, sym, ap, ap₂, _∙_, subst, subst₂}
+use mathlib.Core.Path.{_≡_, sym, ap, ap₂, _∙_, subst}
 use mathlib.Core.Bool.{cond}
 use mathlib.Core.List.{List, _++_, map}
-use Prim.Native.Nat.{ℕ, _+_, _*_, _≤_, _<_}
+use Prim.Native.Nat.{ℕ, _+_, _*_, _≤_}
 use native.Mathlib.Omega.{arith}
 use lib.IntN.{ℤ, pos, natAbs}
 use lib.ListN.{length, take, replicate}
 use lib.Seq.{sets, length-take-le, take-at}
-use Rattle.jobs.specs.Words.{countAt, cellsOf, linksOf, jobOf}
+use Rattle.packs.specs.declared.Outcome.{Outcome}
+use Rattle.jobs.specs.Words.{countAt, cellsOf, jobOf}
 use Rattle.jobs.specs.Packs.{readJob, readProposal}
 use Rattle.jobs.proofs.Readings.{read-words-few}
 use Rattle.measure.specs.declared.check.Verdict.{Verdict}
 use Rattle.measure.specs.declared.check.Verdict.the-variants.{Accepted, Refused}
-use Rattle.measure.specs.Check.{checkOf}
+use Rattle.measure.specs.Check.{ifRead, proposalWords, checkOf}
 use Rattle.shelf.specs.declared.Answer.{Answer}
 use Rattle.shelf.specs.Slots.{slotOf, keptIn}
 use Rattle.shelf.specs.Checked.{checkedOf, accepted, answerOf, valuesOf}
 use Rattle.shelf.specs.Shelf.{base, onSociety, keptShelf, keepReply}
-use Rattle.shelf.specs.Given.{JobWords, Rates, Given, rates, firstValues, keptFrom}
+use Rattle.shelf.specs.Given.{Rates, Given, firstValues, keptFrom}
 use Rattle.shelf.proofs.Values.{length-map, scratch-length, same-word, same-values}
 use Rattle.shelf.proofs.Sound.{Packed, accepted-read}
 
@@ -34,35 +35,16 @@ kept-by words loss gap s j p q vs us r shelf ys e =
     ∙ ap (λ (x : ℕ). onSociety base (countAt words 0) (keptIn 126 4 x (slotOf 126 x loss gap vs)) shelf) q
     ∙ ap (λ (x : List ℕ). keptFrom words loss gap x shelf) r
 
--- where a job's words have the count of its links
-pub links-at : (words : List ℤ) → JobWords words → (n : ℕ) → n ≡ cellsOf words → (6 + 4 * n < length words) × (countAt words (6 + 4 * n) ≤ 4294967295)
-links-at words J n p =
-    (omega (arith, p, J .cells, J .room), subst (λ (k : ℕ). countAt words (6 + 4 * k) ≤ 4294967295) (sym p) (omega (arith, J .links)))
-
--- ---- a proposal that was read for a job's words
-module _ (words : List ℤ) (proposal : List ℕ) (G : Given words proposal) (n links : ℕ) (p : n ≡ cellsOf words) (q : links ≡ countAt words (6 + 4 * n))
-    (scratch : List ℤ) (stored : scratch ≡ sets (replicate 280 (pos 0)) 0 (readProposal n links proposal .words)) where
-  over : scratch ≡ sets (replicate 280 (pos 0)) 0 (rates words proposal)
-  over = stored ∙ ap₂ (λ (a b : ℕ). sets (replicate 280 (pos 0)) 0 (readProposal a b proposal .words)) p (q ∙ ap (λ (k : ℕ). countAt words (6 + 4 * k)) p)
-
-  pub rates-read : Rates n scratch
-  rates-read =
-      let R = G .values in
-      subst (λ (k : ℕ). Rates k scratch) (sym p)
-      (record {
-        few = R .few;
-        inside = omega (arith, R .inside, G .short, scratch-length 280 (rates words proposal) (G .short) scratch over);
-        small = λ i h. subst (λ (z : ℤ). natAbs z ≤ 1000000) (sym (same-word 280 (rates words proposal) (G .short) scratch over i)) (R .small i h);
-      })
-
-  pub values-read : firstValues n scratch ≡ firstValues (cellsOf words) (rates words proposal)
-  values-read = ap (λ (k : ℕ). firstValues k scratch) p ∙ same-values 280 (rates words proposal) (G .short) scratch over (cellsOf words) (G .values .inside)
-
 -- ---- two packs that the check has accepted
 module _ (job proposal : List ℕ) (F G : ℤ) (e : checkOf job proposal ≡ Accepted F G)
-    (scratch : List ℤ) (stored : scratch ≡ sets (replicate 2087 (pos 0)) 0 (readJob job .words)) where
-  abbrev pub ws : List ℤ
+    (scratch : List ℤ) (stored : scratch ≡ sets (replicate 2087 (pos 0)) 0 (readJob job .words))
+    (rates : List ℤ) (read : rates ≡ sets (replicate 280 (pos 0)) 0 (proposalWords job proposal)) where
+  abbrev ws : List ℤ
   ws = readJob job .words
+
+  -- the proposal's numbers
+  abbrev numbers : List ℤ
+  numbers = readProposal (jobOf ws .cells) (jobOf ws .links) proposal .words
 
   packed : Packed job proposal
   packed = accepted-read job proposal (ap accepted e)
@@ -70,16 +52,16 @@ module _ (job proposal : List ℕ) (F G : ℤ) (e : checkOf job proposal ≡ Acc
   few : length ws ≤ 2087
   few = read-words-few job (packed .job-done .0) (packed .job-done .1)
 
-  pub same-count : (i : ℕ) → countAt scratch i ≡ countAt ws i
+  same-count : (i : ℕ) → countAt scratch i ≡ countAt ws i
   same-count i = ap (λ (z : ℤ). natAbs z) (same-word 2087 ws few scratch stored i)
 
-  same-links : linksOf scratch ≡ linksOf ws
-  same-links = same-count (6 + 4 * cellsOf scratch) ∙ ap (λ (n : ℕ). countAt ws (6 + 4 * n)) (same-count 2)
+  over : rates ≡ sets (replicate 280 (pos 0)) 0 numbers
+  over = read ∙ ap (λ (o : Outcome). sets (replicate 280 (pos 0)) 0 (ifRead o numbers)) (packed .job-done .1)
 
-  pub same-rates : rates scratch proposal ≡ rates ws proposal
-  same-rates = ap₂ (λ (n m : ℕ). readProposal n m proposal .words) (same-count 2) same-links
+  short : length numbers ≤ 280
+  short = omega (arith, packed .proposed .count, packed .allowed .cells-few, packed .allowed .links-few)
 
-  pub given-packs : Given scratch proposal
+  pub given-packs : Given scratch rates
   given-packs =
       let A = packed .allowed in
       let P = packed .proposed in
@@ -89,24 +71,34 @@ module _ (job proposal : List ℕ) (F G : ℤ) (e : checkOf job proposal ≡ Acc
           society = omega (arith, same-count 0, A .society);
           number = omega (arith, same-count 1, A .number);
           cells = omega (arith, same-count 2, A .cells-few);
-          links = omega (arith, same-links, A .links-few);
+          links = omega (arith, same-count (6 + 4 * cellsOf scratch) ∙ ap (λ (n : ℕ). countAt ws (6 + 4 * n)) (same-count 2), A .links-few);
         };
-        values = subst₂ Rates (sym (same-count 2)) (sym same-rates) (record { few = A .cells-few; inside = omega (arith, P .count); small = λ i h. P .value i h .small });
-        short = subst (λ (l : List ℤ). length l ≤ 280) (sym same-rates) (omega (arith, P .count, A .cells-few, A .links-few));
+        values = subst (λ (n : ℕ). Rates n rates) (sym (same-count 2)) (record {
+          few = A .cells-few;
+          inside = omega (arith, A .cells-few, scratch-length 280 numbers short rates over);
+          small = λ i h. subst (λ (z : ℤ). natAbs z ≤ 1000000) (sym (same-word 280 numbers short rates over i)) (P .value i h .small);
+        });
       }
 
-  pub kept-packs : (f g : ℕ) → f ≡ natAbs F → g ≡ natAbs G → (shelf ys : List ℕ) → ys ≡ keptFrom scratch f g (firstValues (cellsOf scratch) (rates scratch proposal)) shelf
-      → (_≡_ {A = Answer} (record { number = 0; place = 0; loss = f; gap = g }) (keepReply (checkedOf job proposal) .answer)) × (ys ≡ keptShelf base (checkedOf job proposal) shelf)
+  -- what the packs name is what stands in the lent words
+  pub packs-name : {A : Type 0} (f : (society job : ℕ) (values : List ℕ) → A)
+      → f (countAt scratch 0) (countAt scratch 1) (firstValues (cellsOf scratch) rates) ≡ f (countAt ws 0) (countAt ws 1) (valuesOf (jobOf ws) proposal)
+  packs-name {A} f =
+      ap₂ {C = A} (λ (s j : ℕ). f s j (firstValues (cellsOf scratch) rates)) (same-count 0) (same-count 1)
+      ∙ ap {B = A} (f (countAt ws 0) (countAt ws 1))
+      (ap (λ (n : ℕ). firstValues n rates) (same-count 2) ∙ same-values 280 numbers short rates over (cellsOf ws) (omega (arith, packed .proposed .count)))
+
+  pub kept-packs : (a : Answer) → a ≡ record { number = 0; place = 0; loss = natAbs F; gap = natAbs G } → (shelf ys : List ℕ)
+      → ys ≡ keptFrom scratch (natAbs F) (natAbs G) (firstValues (cellsOf scratch) rates) shelf
+      → (a ≡ keepReply (checkedOf job proposal) .answer) × (ys ≡ keptShelf base (checkedOf job proposal) shelf)
   unfolding checkedOf keptShelf keepReply
-  kept-packs f g p q shelf ys k =
+  kept-packs a p shelf ys k =
       let s = countAt ws 0 in
       let j = countAt ws 1 in
       let vs = valuesOf (jobOf ws) proposal in (
-        ap₂ {C = Answer} (λ (a b : ℕ). record { number = 0; place = 0; loss = a; gap = b }) p q ∙ sym (ap {B = Answer} answerOf e),
+        p ∙ sym (ap {B = Answer} answerOf e),
         k
-            ∙ ap₂ (λ (a b : ℕ). keptFrom scratch a b (firstValues (cellsOf scratch) (rates scratch proposal)) shelf) p q
-            ∙ ap₂ (λ (n : ℕ) (r : List ℤ). keptFrom scratch (natAbs F) (natAbs G) (firstValues n r) shelf) (same-count 2) same-rates
-            ∙ ap₂ (λ (a b : ℕ). onSociety base a (keptIn 126 4 b (slotOf 126 b (natAbs F) (natAbs G) vs)) shelf) (same-count 0) (same-count 1)
+            ∙ packs-name (λ s j vs. onSociety base s (keptIn 126 4 j (slotOf 126 j (natAbs F) (natAbs G) vs)) shelf)
             ∙ sym (ap (λ (v : Verdict). cond (accepted v) (onSociety base s (keptIn 126 4 j (slotOf 126 j (answerOf v .loss) (answerOf v .gap) vs)) shelf) shelf) e),
       )
 

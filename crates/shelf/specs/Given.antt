@@ -5,7 +5,6 @@ use mathlib.Core.List.{List, map}
 use lib.IntN.{ℤ, natAbs}
 use lib.ListN.{length, take}
 use Rattle.jobs.specs.Words.{wordAt, countAt, cellsOf, linksOf}
-use Rattle.jobs.specs.Packs.{readProposal}
 use Rattle.shelf.specs.Slots.{slotOf, keptIn}
 use Rattle.shelf.specs.Shelf.{base, onSociety}
 
@@ -23,14 +22,10 @@ pub record Rates (n : ℕ) (rates : List ℤ) : Type 0 where
   pub inside : n ≤ length rates
   pub small : (i : ℕ) → i < n → natAbs (wordAt rates i) ≤ 1000000
 
--- A proposal pack for such a job.
-abbrev pub rates : (words : List ℤ) (proposal : List ℕ) → List ℤ
-rates words proposal = readProposal (cellsOf words) (linksOf words) proposal .words
-
-pub record Given (words : List ℤ) (proposal : List ℕ) : Type 0 where
+-- A job's words, and the numbers of a proposal for it.
+pub record Given (words rates : List ℤ) : Type 0 where
   pub job : JobWords words
-  pub values : Rates (cellsOf words) (rates words proposal)
-  pub short : length (rates words proposal) ≤ 280
+  pub values : Rates (cellsOf words) rates
 
 -- The first n rates as values, and the shelf after a table of that job was kept.
 abbrev pub firstValues : ℕ → List ℤ → List ℕ

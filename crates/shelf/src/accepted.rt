@@ -2,18 +2,17 @@
 ghost use mathlib.Core.Path.{_≡_};
 ghost use mathlib.Core.List.{_++_};
 ghost use Prim.Native.Nat.{_≤_, _<_};
+ghost use lib.IntN.{natAbs};
 ghost use lib.ListN.{length, drop};
 ghost use Rattle.jobs.specs.Words.{countAt, cellsOf};
-ghost use Rattle.measure.specs.declared.check.Verdict.the-variants.{Accepted};
-ghost use Rattle.measure.specs.Check.{checkOf};
 ghost use Rattle.shelf.specs.Checked.{checkedOf};
 ghost use Rattle.shelf.specs.Shelf.{base, keptShelf, keepReply};
-ghost use Rattle.shelf.specs.Given.{JobWords, Rates, Given, rates, firstValues, keptFrom};
+ghost use Rattle.shelf.specs.Given.{JobWords, Rates, Given, firstValues, keptFrom};
 use crate::Answer;
 use crate::societies::keep_society;
 use crate::span::plain;
-use fields::Field;
 use measure::check::Verdict;
+use measure::check::check_into;
 use numbers::zigzag::size_of;
 
 // The count that stands at `at`: a word of 32 bits at most.
@@ -56,30 +55,16 @@ fn keep_rates(shelf: &mut [u32], words: &[i64], rates: &[i64], n: usize, loss: u
     );
 }
 
-// Keep the values of a proposal pack for a job's words.
-fn keep_words(shelf: &mut [u32], words: &[i64], proposal: &[u8], loss: u64, gap: u64)
-    requires { ⌜ (length (now shelf) ≡ 4032) × Given (now words) (now proposal) ⌝ }
-    ensures { λ _. ⌜ now (shelf .exit) ≡ keptFrom (now (words .entry)) loss gap (firstValues (cellsOf (now (words .entry))) (rates (now (words .entry)) (now (proposal .entry)))) (now (shelf .entry)) ⌝ }
+// Keep a table that the check has accepted with that loss and gap: the numbers of a proposal, for a job's words.
+fn keep_table(shelf: &mut [u32], words: &[i64], rates: &[i64], loss: i64, gap: i64) -> Answer
+    requires { ⌜ (length (now shelf) ≡ 4032) × Given (now words) (now rates) ⌝ }
+    ensures answer { λ r. ⌜ r ≡ record { number = 0; place = 0; loss = natAbs loss; gap = natAbs gap } ⌝ }
+    ensures shelf { λ _. ⌜ now (shelf .exit) ≡ keptFrom (now (words .entry)) (natAbs loss) (natAbs gap) (firstValues (cellsOf (now (words .entry))) (now (rates .entry))) (now (shelf .entry)) ⌝ }
 {
-    let n = count_at(words, 2);
-    let at = 6 + 4 * (n as usize);
-    let links = count_at(words, at);
-    let mut read = [0i64; 280];
-    jobs::proposal::read_proposal(proposal, n, links, &mut read);
-    keep_rates(shelf, words, &read, n as usize, loss, gap);
-}
-
-// Keep the table of two packs that the check has accepted with that loss and gap.
-fn keep_packs(shelf: &mut [u32], job: &[u8], proposal: &[u8], loss: i64, gap: i64) -> Answer
-    requires { ⌜ (length (now shelf) ≡ 4032) × (checkOf (now job) (now proposal) ≡ Accepted loss gap) ⌝ }
-    ensures answer { λ r. ⌜ r ≡ keepReply (checkedOf (now (job .entry)) (now (proposal .entry))) .answer ⌝ }
-    ensures shelf { λ _. ⌜ now (shelf .exit) ≡ keptShelf base (checkedOf (now (job .entry)) (now (proposal .entry))) (now (shelf .entry)) ⌝ }
-{
-    let mut words = [0i64; 2087];
-    packs::reading::read(job, Field::Society, &mut words);
     let f = size_of(loss);
     let g = size_of(gap);
-    keep_words(shelf, &words, proposal, f, g);
+    let n = count_at(words, 2);
+    keep_rates(shelf, words, rates, n as usize, f, g);
     Answer {
         number: 0,
         place: 0,
@@ -94,9 +79,11 @@ pub fn keep_checked(shelf: &mut [u32], job: &[u8], proposal: &[u8]) -> Answer
     ensures answer { λ r. ⌜ r ≡ keepReply (checkedOf (now (job .entry)) (now (proposal .entry))) .answer ⌝ }
     ensures shelf { λ _. ⌜ now (shelf .exit) ≡ keptShelf base (checkedOf (now (job .entry)) (now (proposal .entry))) (now (shelf .entry)) ⌝ }
 {
-    let verdict = measure::check::check(job, proposal);
+    let mut words = [0i64; 2087];
+    let mut rates = [0i64; 280];
+    let verdict = check_into(job, proposal, &mut words, &mut rates);
     match verdict {
-        Verdict::Accepted { loss, gap } => keep_packs(shelf, job, proposal, loss, gap),
+        Verdict::Accepted { loss, gap } => keep_table(shelf, &words, &rates, loss, gap),
         Verdict::Refused { number, place } => plain(number, place as u64),
     }
 }

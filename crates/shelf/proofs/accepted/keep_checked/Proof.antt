@@ -1,31 +1,40 @@
 -- The table is kept where the verdict accepts it, and a refusal is the check's own.
-use mathlib.Core.Path.{sym, ap₂, _∙_}
+use mathlib.Core.Path.{sym, ap, ap₂, _∙_}
+use lib.IntN.{ℤ, pos, natAbs}
+use lib.ListN.{length, replicate, length-replicate}
+use lib.Seq.{length-sets}
 use mir.Facts.{toZ-ofZ}
 use mir.Syntax.{w64}
-use Rattle.measure.specs.declared.check.Verdict.{Verdict}
-use Rattle.measure.specs.declared.check.Verdict.the-variants.{Accepted}
-use Rattle.shelf.proofs.Packs.{refused-packs}
+use Rattle.jobs.specs.Words.{cellsOf}
+use Rattle.shelf.specs.declared.Answer.{Answer}
+use Rattle.shelf.specs.Given.{firstValues, keptFrom}
+use Rattle.shelf.proofs.Packs.{given-packs, kept-packs, refused-packs}
 use borrow.Author.Needs.{needs}
 use Rattle.shelf.proofs.accepted.keep_checked.Statement.{statement}
 use Rattle.shelf.proofs.accepted.keep_checked.Tie as tie
+use Rattle.shelf.proofs.accepted.keep_checked.Reads as reads
+use Rattle.shelf.proofs.accepted.keep_checked.Lts as lts
+use Rattle.measure.proofs.check.check_into.Reads as check-into-reads
+use Rattle.shelf.proofs.accepted.keep_table.Reads as keep-table-reads
+use Rattle.shelf.proofs.span.plain.Reads as plain-reads
 
-check-requires : tie.Need-check-requires
-check-requires c κs = search needs
+check-into-requires : tie.Need-check-into-requires
+check-into-requires c κs = search needs
 
 enum-known-verdict : tie.Need-enum-known-verdict
 enum-known-verdict c = search needs
 
-keep-packs-requires : tie.Need-keep-packs-requires
-keep-packs-requires c κs =
-    let told = c .before .before in
-    let check = told .before .before in
-    let F = told .verdict .given .0 .0 in
-    let G = told .verdict .given .0 .1 .0 in
-    let known = c .before .known-told .given in (
-      search needs,
-      sym (check .check .ensures) ∙ told .verdict .given .1
-          ∙ ap₂ {C = Verdict} Accepted (sym (toZ-ofZ {w = w64} {z = F} (record { sfits = known .0 .1 }))) (sym (toZ-ofZ {w = w64} {z = G} (record { sfits = known .1 .0 .1 }))),
-    )
+slice-aggregate-keep-table : tie.Need-slice-aggregate-keep-table
+slice-aggregate-keep-table c = sym (ap length (c .before .before .before .before .before .check-into .ensures .1) ∙ length-sets (replicate 2087 (pos 0)) 0 _ ∙ length-replicate 2087 (pos 0))
+
+slice-aggregate-keep-table-2 : tie.Need-slice-aggregate-keep-table-2
+slice-aggregate-keep-table-2 c = sym (ap length (c .before .before .before .before .before .before .check-into .ensures .2) ∙ length-sets (replicate 280 (pos 0)) 0 _ ∙ length-replicate 280 (pos 0))
+
+keep-table-requires : tie.Need-keep-table-requires
+keep-table-requires c κs = let check = c .before .before .before .before .before .before in
+    let told = c .before .before .before .before .verdict .given in
+    let a = c .before .before .before .before .before .before .before .before .before .before .before .before .args in
+    (search needs, given-packs (a .job .now) (a .proposal .now) (told .0 .0) (told .0 .1 .0) (sym (check .check-into .ensures .0) ∙ told .1) (check .check-into .last .1 .1 .0) (check .check-into .ensures .1) (check .check-into .last .1 .1 .1 .0) (check .check-into .ensures .2))
 
 enum-known-verdict-2 : tie.Need-enum-known-verdict-2
 enum-known-verdict-2 c = search needs
@@ -37,22 +46,36 @@ same-length : tie.Need-same-length
 same-length c = search needs
 
 returns : tie.Need-returns
-returns c = search needs
+returns c = let kept = c .before .before in
+    let known = c .before .before .before .before .before .before .known-told .given in
+    let told = c .before .before .before .before .before .before .before .verdict .given in
+    let check = c .before .before .before .before .before .before .before .before .before in
+    let a = c .before .before .before .before .before .before .before .before .before .before .before .before .before .before .before .args in
+    let F = told .0 .0 in
+    let G = told .0 .1 .0 in
+    let words = check .check-into .last .1 .1 .0 in
+    let rates = check .check-into .last .1 .1 .1 .0 in
+    let f = toZ-ofZ {w = w64} {z = F} (record { sfits = known .0 .1 }) in
+    let g = toZ-ofZ {w = w64} {z = G} (record { sfits = known .1 .0 .1 }) in
+    kept-packs (a .job .now) (a .proposal .now) F G (sym (check .check-into .ensures .0) ∙ told .1) words (check .check-into .ensures .1) rates (check .check-into .ensures .2)
+    (kept .keep-table .result) (kept .keep-table .ensures .0 ∙ ap₂ {C = Answer} (λ (x y : ℤ). record { number = 0; place = 0; loss = natAbs x; gap = natAbs y }) f g)
+    (a .shelf .now) (kept .keep-table .last .0)
+    (kept .keep-table .ensures .1 ∙ ap₂ (λ (x y : ℤ). keptFrom words (natAbs x) (natAbs y) (firstValues (cellsOf words) rates) (a .shelf .now)) f g)
 
 returns-2 : tie.Need-returns-2
-returns-2 c =
-    let told = c .before .before in
-    let check = told .before .before in
-    let a = check .before .before .before .before .args in
-    refused-packs (a .job .now) (a .proposal .now) (told .verdict2 .given .0 .0) (told .verdict2 .given .0 .1 .0) (sym (check .check .ensures) ∙ told .verdict2 .given .1) (c .plain .result) (c .plain .ensures) (a .shelf .now)
+returns-2 c = let told = c .before .before .verdict2 .given in
+    let a = c .before .before .before .before .before .before .before .before .before .before .args in
+    refused-packs (a .job .now) (a .proposal .now) (told .0 .0) (told .0 .1 .0) (sym (c .before .before .before .before .check-into .ensures .0) ∙ told .1) (c .plain .result) (c .plain .ensures) (a .shelf .now)
 
 pub keep-checked-spec : {M : Type 1} → statement M
 keep-checked-spec =
     tie.close
     (tie.spec
-    check-requires
+    check-into-requires
     enum-known-verdict
-    keep-packs-requires
+    slice-aggregate-keep-table
+    slice-aggregate-keep-table-2
+    keep-table-requires
     enum-known-verdict-2
     plain-requires
     same-length

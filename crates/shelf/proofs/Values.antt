@@ -1,5 +1,5 @@
 -- Lists of signed numbers and their sizes, and a list that was stored over zeros: it stands in front, and zeros are after it.
-use mathlib.Core.Path.{_≡_, refl, ap, _∙_}
+use mathlib.Core.Path.{_≡_, refl, sym, ap, _∙_}
 use mathlib.Core.List.{List, [], _∷_, _++_, map}
 use Prim.Native.Nat.{ℕ, zero, suc, _+_, _≤_}
 use native.Mathlib.Omega.{arith}
@@ -47,6 +47,9 @@ past-end (x ∷ xs) zs h zero = refl
 past-end (x ∷ xs) zs h (suc i) = past-end xs zs h i
 
 -- ---- a list stored over m zeros
+pub lent-length : (m : ℕ) (ws l : List ℤ) → l ≡ sets (replicate m (pos 0)) 0 ws → m ≡ length l
+lent-length m ws l e = sym (ap length e ∙ length-sets (replicate m (pos 0)) 0 ws ∙ length-replicate m (pos 0))
+
 module _ (m : ℕ) (ws : List ℤ) (room : length ws ≤ m) (scratch : List ℤ) (stored : scratch ≡ sets (replicate m (pos 0)) 0 ws) where
   long : length (replicate m (pos 0)) ≡ m
   long = length-replicate m (pos 0)
@@ -55,7 +58,7 @@ module _ (m : ℕ) (ws : List ℤ) (room : length ws ≤ m) (scratch : List ℤ)
   in-front = stored ∙ sets-eq ws (replicate m (pos 0)) 0 (omega (arith, long))
 
   pub scratch-length : length scratch ≡ m
-  scratch-length = ap length stored ∙ length-sets (replicate m (pos 0)) 0 ws ∙ long
+  scratch-length = sym (lent-length m ws scratch stored)
 
   pub same-word : (i : ℕ) → wordAt scratch i ≡ wordAt ws i
   same-word i =

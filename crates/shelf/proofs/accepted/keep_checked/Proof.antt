@@ -1,13 +1,14 @@
 -- The table is kept where the verdict accepts it, and a refusal is the check's own.
-use mathlib.Core.Path.{sym, ap, ap₂, _∙_}
-use lib.IntN.{ℤ, pos, natAbs}
-use lib.ListN.{length, replicate, length-replicate}
-use lib.Seq.{length-sets}
+use mathlib.Core.Path.{sym, ap₂, _∙_}
+use lib.IntN.{ℤ, natAbs}
 use mir.Facts.{toZ-ofZ}
 use mir.Syntax.{w64}
 use Rattle.jobs.specs.Words.{cellsOf}
+use Rattle.jobs.specs.Packs.{readJob}
+use Rattle.measure.specs.Check.{proposalWords}
 use Rattle.shelf.specs.declared.Answer.{Answer}
 use Rattle.shelf.specs.Given.{firstValues, keptFrom}
+use Rattle.shelf.proofs.Values.{lent-length}
 use Rattle.shelf.proofs.Packs.{given-packs, kept-packs, refused-packs}
 use borrow.Author.Needs.{needs}
 use Rattle.shelf.proofs.accepted.keep_checked.Statement.{statement}
@@ -25,10 +26,10 @@ enum-known-verdict : tie.Need-enum-known-verdict
 enum-known-verdict c = search needs
 
 slice-aggregate-keep-table : tie.Need-slice-aggregate-keep-table
-slice-aggregate-keep-table c = sym (ap length (c .before .before .before .before .before .check-into .ensures .1) ∙ length-sets (replicate 2087 (pos 0)) 0 _ ∙ length-replicate 2087 (pos 0))
+slice-aggregate-keep-table c = let a = c .before .before .before .before .before .before .before .before .before .before .before .args in lent-length 2087 (readJob (a .job .now) .words) _ (c .before .before .before .before .before .check-into .ensures .1)
 
 slice-aggregate-keep-table-2 : tie.Need-slice-aggregate-keep-table-2
-slice-aggregate-keep-table-2 c = sym (ap length (c .before .before .before .before .before .before .check-into .ensures .2) ∙ length-sets (replicate 280 (pos 0)) 0 _ ∙ length-replicate 280 (pos 0))
+slice-aggregate-keep-table-2 c = let a = c .before .before .before .before .before .before .before .before .before .before .before .before .args in lent-length 280 (proposalWords (a .job .now) (a .proposal .now)) _ (c .before .before .before .before .before .before .check-into .ensures .2)
 
 keep-table-requires : tie.Need-keep-table-requires
 keep-table-requires c κs = let check = c .before .before .before .before .before .before in

@@ -34,18 +34,18 @@ same-length c = search needs
 
 returns : tie.Need-returns
 returns c = let s = c .before .before .before .before .before .before .before .before .before .before .before in (
-      proposal-answer (s .pre .0) (s .pre .1) (c .before .before .before .before .before .before .before .before .before .cells-of .ensures) (c .before .before .before .before .before .before .before .before .links-of .ensures) (s .args .proposal .now) (s .args .values .now) (s .pre .2) (c .before .before .before .before .before .before .read-proposal .ensures .0) (c .before .before .before .before .before .before .read-proposal .ensures .1) (c .before .before .before .read .given .1) (c .check-first .ensures),
-      proposal-left (s .pre .0) (s .pre .1) (c .before .before .before .before .before .before .before .before .before .cells-of .ensures) (c .before .before .before .before .before .before .before .before .links-of .ensures) (s .args .proposal .now) (s .args .values .now) (s .pre .2) (c .before .before .before .before .before .before .read-proposal .ensures .0) (c .before .before .before .before .before .before .read-proposal .ensures .1),
-    )
+  proposal-answer (s .pre .0) (s .pre .1) (c .before .before .before .before .before .before .before .before .before .cells-of .ensures) (c .before .before .before .before .before .before .before .before .links-of .ensures) (s .args .proposal .now) (s .args .values .now) (s .pre .2) (c .before .before .before .before .before .before .read-proposal .ensures .0) (c .before .before .before .before .before .before .read-proposal .ensures .1) (c .before .before .before .read .given .1) (c .check-first .ensures),
+  proposal-left (s .pre .0) (s .pre .1) (c .before .before .before .before .before .before .before .before .before .cells-of .ensures) (c .before .before .before .before .before .before .before .before .links-of .ensures) (s .args .proposal .now) (s .args .values .now) (s .pre .2) (c .before .before .before .before .before .before .read-proposal .ensures .0) (c .before .before .before .before .before .before .read-proposal .ensures .1),
+)
 
 same-length-2 : tie.Need-same-length-2
 same-length-2 c = search needs
 
 returns-2 : tie.Need-returns-2
 returns-2 c = let s = c .before .before .before .before .before .before .before .before .before in (
-      proposal-refused (s .pre .0) (s .pre .1) (c .before .before .before .before .before .before .before .cells-of .ensures) (c .before .before .before .before .before .before .links-of .ensures) (s .args .proposal .now) (s .args .values .now) (s .pre .2) (c .before .before .before .before .read-proposal .ensures .0) (c .before .before .before .before .read-proposal .ensures .1) (c .before .read2 .given .1),
-      proposal-left (s .pre .0) (s .pre .1) (c .before .before .before .before .before .before .before .cells-of .ensures) (c .before .before .before .before .before .before .links-of .ensures) (s .args .proposal .now) (s .args .values .now) (s .pre .2) (c .before .before .before .before .read-proposal .ensures .0) (c .before .before .before .before .read-proposal .ensures .1),
-    )
+  proposal-refused (s .pre .0) (s .pre .1) (c .before .before .before .before .before .before .before .cells-of .ensures) (c .before .before .before .before .before .before .links-of .ensures) (s .args .proposal .now) (s .args .values .now) (s .pre .2) (c .before .before .before .before .read-proposal .ensures .0) (c .before .before .before .before .read-proposal .ensures .1) (c .before .read2 .given .1),
+  proposal-left (s .pre .0) (s .pre .1) (c .before .before .before .before .before .before .before .cells-of .ensures) (c .before .before .before .before .before .before .links-of .ensures) (s .args .proposal .now) (s .args .values .now) (s .pre .2) (c .before .before .before .before .read-proposal .ensures .0) (c .before .before .before .before .read-proposal .ensures .1),
+)
 
 pub check-pack-spec : {M : Type 1} → statement M
 check-pack-spec =

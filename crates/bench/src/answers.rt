@@ -3,7 +3,7 @@ ghost use mathlib.Core.Path.{_≡_};
 ghost use Prim.Native.Nat.{_^_, _%_};
 ghost use lib.ListN.{length};
 ghost use Rattle.shelf.specs.Checked.{answerOf};
-ghost use Rattle.bench.specs.Answers.{codeOf, wordsOf};
+ghost use Rattle.bench.specs.Answers.{codeOf, answerWords};
 ghost use Rattle.bench.specs.Calls.{outcomeOf};
 use measure::check::Verdict;
 use packs::Outcome;
@@ -24,7 +24,7 @@ const PLACE_SHIFT: u64 = 5;
 // Write the answer and return its number and place as one. No answer of a call is so large that this wraps, which is for the calls to show.
 pub fn give(answer: &mut [u64], a: Answer) -> u64
     requires { ⌜ length (now answer) ≡ 4 ⌝ }
-    ensures { λ r. ⌜ (r ≡ codeOf a % 2 ^ 64) × (now (answer .exit) ≡ wordsOf a) ⌝ }
+    ensures { λ r. ⌜ (r ≡ codeOf a % 2 ^ 64) × (now (answer .exit) ≡ answerWords a) ⌝ }
 {
     answer[0] = a.number;
     answer[1] = a.place;

@@ -30,7 +30,7 @@ two-fit a b = omega (arith, printed-length a (b ∷ []), later-length b [], late
 -- the fields of a table's line before its values
 pub head-length : (society job loss gap : ℕ)
     → length (headFields society job loss gap)
-      ≡ length (decimal 0) + (length (field society) + (length (field job) + (length (field loss) + length (field gap))))
+    ≡ length (decimal 0) + (length (field society) + (length (field job) + (length (field loss) + length (field gap))))
 head-length society job loss gap = simp length-append
 
 -- ---- the values of a table

@@ -1,7 +1,7 @@
 // Signed numbers of a pack: coefficients and bounds are stored as 2x for x >= 0 and -2x-1 below.
 ghost use mathlib.Core.Path.{_≡_};
-ghost use Prim.Native.Nat.{ℕ, _^_, _<_};
-ghost use lib.IntN.{ℤ, pos, negsuc};
+ghost use Prim.Native.Nat.{_^_, _<_};
+ghost use lib.IntN.{pos, negsuc};
 ghost use Rattle.numbers.specs.Zigzag.{storedOf, signedOf, signOf};
 
 // A signed number taken apart: n for n, and n for -(n + 1).

@@ -4,14 +4,14 @@ use native.Mathlib.Omega.{arith}
 use mathlib.Core.Path.{_≡_, refl, ap, _∙_}
 use Rattle.whole.specs.Sum.{sum}
 use Rattle.whole.proofs.Fits.{Holds, adds-fits, adds-next}
-use Rattle.house.specs.Band.{squareTerm}
+use Rattle.house.specs.Band.{productTerm}
 use Rattle.house.proofs.Sizes.{squares-adds}
 use borrow.Author.Needs.{needs}
 use Rattle.house.proofs.band.squares_at.Statement.{statement}
 use Rattle.house.proofs.band.squares_at.Tie as tie
 
 abbrev Inv-loop : tie.InvT-loop
-Inv-loop n z i o total₀ m₀ total m = (m ≤ z + 1) × Holds total (sum m (squareTerm n z i o))
+Inv-loop n z i o total₀ m₀ total m = (m ≤ z + 1) × Holds total (sum m (productTerm n z i o))
 
 abbrev μ-loop : tie.MeasureT-loop
 μ-loop n z i o total₀ m₀ total m = z + 1 - m
@@ -46,7 +46,7 @@ returns c =
     let head = c .before in
     let s = head .before in
     let e : head .loop .m ≡ suc (s .args .z) = omega arith in
-    head .loop .inv .1 .is ∙ ap (λ (m : ℕ). sum m (squareTerm (s .args .n) (s .args .z) (s .args .i) (s .args .o))) e
+    head .loop .inv .1 .is ∙ ap (λ (m : ℕ). sum m (productTerm (s .args .n) (s .args .z) (s .args .i) (s .args .o))) e
 
 pub squares-at-spec : {M : Type 1} → statement M
 squares-at-spec =

@@ -1,11 +1,12 @@
 -- The word at 4, which is small.
 use native.Mathlib.Omega.{arith}
-use Rattle.measure.proofs.Places.{cells-inside, constant-read}
-use Rattle.measure.proofs.words.constant_of.Statement.{statement}
-use Rattle.measure.proofs.words.constant_of.Tie as tie
+use Rattle.jobs.proofs.Places.{cells-inside}
+use Rattle.jobs.proofs.Counts.{constant-read}
+use Rattle.jobs.proofs.words.constant_of.Statement.{statement}
+use Rattle.jobs.proofs.words.constant_of.Tie as tie
 
 shared-slice-copy-out-result : tie.Need-shared-slice-copy-out-result
-shared-slice-copy-out-result c = omega (arith, cells-inside (c .pre .0) (c .pre .1))
+shared-slice-copy-out-result c = omega (arith, cells-inside (c .pre .1))
 
 returns : tie.Need-returns
 returns c = constant-read (c .before .pre .0) (c .before .pre .1)

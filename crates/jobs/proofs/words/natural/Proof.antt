@@ -1,9 +1,9 @@
 -- The word is not negative, so the cast keeps it.
 use native.Mathlib.Omega.{arith}
-use Rattle.house.proofs.Told.{natural-read}
+use Rattle.jobs.proofs.Counts.{natural-read}
 use borrow.Author.Needs.{needs}
-use Rattle.house.proofs.words.natural.Statement.{statement}
-use Rattle.house.proofs.words.natural.Tie as tie
+use Rattle.jobs.proofs.words.natural.Statement.{statement}
+use Rattle.jobs.proofs.words.natural.Tie as tie
 
 cast-result : tie.Need-cast-result
 cast-result c = rw (natural-read (c .args .x) (c .pre) (c .fits .x)) (tt, record { fits = omega (arith, c .pre .small) })

@@ -1,9 +1,9 @@
 -- The word is not negative, so the cast keeps it.
 use native.Mathlib.Omega.{arith}
 use borrow.Author.Needs.{needs}
-use Rattle.measure.proofs.Places.{counts-read}
-use Rattle.measure.proofs.words.count_at.Statement.{statement}
-use Rattle.measure.proofs.words.count_at.Tie as tie
+use Rattle.jobs.proofs.Counts.{counts-read}
+use Rattle.jobs.proofs.words.count_at.Statement.{statement}
+use Rattle.jobs.proofs.words.count_at.Tie as tie
 
 mul-result : tie.Need-mul-result
 mul-result c = search needs

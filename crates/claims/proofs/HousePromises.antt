@@ -13,7 +13,7 @@ use Rattle.packs.specs.declared.Outcome.the-variants.{Done, Refused as Refuses}
 use Rattle.jobs.specs.Packs.{readJob}
 use Rattle.measure.specs.declared.check.Verdict.the-variants.{Refused}
 use Rattle.measure.specs.Check.{checkOf}
-use Rattle.house.specs.Proposal.{onRead, proposeOf}
+use Rattle.house.specs.Proposal.{onJobRead, proposeOf}
 use Rattle.house.specs.Promises.{Fit, ProposalsFit}
 use Rattle.house.proofs.Fitting as Fitting
 use Rattle.claims.specs.Read.{jobIn, proposalIn, Reads}
@@ -26,7 +26,7 @@ pub house-fits : ProposalsFit
 house-fits = Fitting.proposals-fit
 
 -- a house proposal is made for a job that reads
-job-reads : (room : ℕ) (ws : List ℤ) (o : Outcome) (n : ℕ) → onRead room ws o .outcome ≡ Done n → Reads o
+job-reads : (room : ℕ) (ws : List ℤ) (o : Outcome) (n : ℕ) → onJobRead room ws o .outcome ≡ Done n → Reads o
 job-reads room ws (Done k) n e = (k, refl)
 job-reads room ws (Refuses number place) n e = clash (cc)
 

@@ -2,10 +2,10 @@
 use mathlib.Core.Path.{ap, _∙_}
 use Prim.Native.Nat.{ℕ, _*_, _+_}
 use borrow.Author.Needs.{needs}
 use Rattle.jobs.specs.Words.{countAt}
-use Rattle.measure.proofs.Places.{links-counts}
-use Rattle.measure.proofs.words.links_of.Statement.{statement}
-use Rattle.measure.proofs.words.links_of.Tie as tie
+use Rattle.jobs.proofs.Counts.{links-counts}
+use Rattle.jobs.proofs.words.links_of.Statement.{statement}
+use Rattle.jobs.proofs.words.links_of.Tie as tie
 
 mul-at : tie.Need-mul-at
 mul-at c = search needs

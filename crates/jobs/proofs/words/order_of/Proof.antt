@@ -2,9 +2,9 @@
 use mathlib.Core.Path.{ap, _∙_}
 use borrow.Author.Needs.{needs}
 use Rattle.fields.specs.Table.{orderUsed}
-use Rattle.measure.proofs.Places.{order-counts}
-use Rattle.measure.proofs.words.order_of.Statement.{statement}
-use Rattle.measure.proofs.words.order_of.Tie as tie
+use Rattle.jobs.proofs.Counts.{order-counts}
+use Rattle.jobs.proofs.words.order_of.Statement.{statement}
+use Rattle.jobs.proofs.words.order_of.Tie as tie
 
 count-at-requires : tie.Need-count-at-requires
 count-at-requires c κs = order-counts (c .pre .0) (c .pre .1)

@@ -1,8 +1,8 @@
 -- n is the count at 2.
 use borrow.Author.Needs.{needs}
-use Rattle.measure.proofs.Places.{cells-counts}
-use Rattle.measure.proofs.words.cells_of.Statement.{statement}
-use Rattle.measure.proofs.words.cells_of.Tie as tie
+use Rattle.jobs.proofs.Counts.{cells-counts}
+use Rattle.jobs.proofs.words.cells_of.Statement.{statement}
+use Rattle.jobs.proofs.words.cells_of.Tie as tie
 
 count-at-requires : tie.Need-count-at-requires
 count-at-requires c κs = cells-counts (c .pre .0) (c .pre .1)

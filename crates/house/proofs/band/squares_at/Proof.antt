@@ -20,14 +20,14 @@ loop-holds : tie.Need-loop-holds Inv-loop μ-loop
 unfolding sum
 loop-holds c = (omega arith, record { is = refl })
 
-square-term-requires : tie.Need-square-term-requires Inv-loop μ-loop
-square-term-requires c κs = search needs
+product-term-requires : tie.Need-product-term-requires Inv-loop μ-loop
+product-term-requires c κs = search needs
 
 add-total : tie.Need-add-total Inv-loop μ-loop
 add-total c =
     let head = c .before .before in
     let s = head .before in
-    adds-fits (squares-adds (s .args .n) (s .args .z) (s .args .i) (s .args .o) (s .pre .1)) (omega arith) (head .loop .inv .1) (c .square-term .ensures)
+    adds-fits (squares-adds (s .args .n) (s .args .z) (s .args .i) (s .args .o) (s .pre .1)) (omega arith) (head .loop .inv .1) (c .product-term .ensures)
 
 add-m : tie.Need-add-m Inv-loop μ-loop
 add-m c = search needs
@@ -39,7 +39,7 @@ loop-again : tie.Need-loop-again Inv-loop μ-loop
 loop-again c =
     let head = c .before .before in
     let s = head .before in
-    (omega arith, adds-next (squares-adds (s .args .n) (s .args .z) (s .args .i) (s .args .o) (s .pre .1)) (omega arith) (head .loop .inv .1) (c .square-term .ensures))
+    (omega arith, adds-next (squares-adds (s .args .n) (s .args .z) (s .args .i) (s .args .o) (s .pre .1)) (omega arith) (head .loop .inv .1) (c .product-term .ensures))
 
 returns : tie.Need-returns Inv-loop μ-loop
 returns c =
@@ -55,7 +55,7 @@ squares-at-spec =
     Inv-loop
     μ-loop
     loop-holds
-    square-term-requires
+    product-term-requires
     add-total
     add-m
     loop-less

@@ -6,8 +6,8 @@ use Rattle.rows.proofs.Rule.{row-small}
 use native.Mathlib.Omega.{arith}
 use Rattle.house.proofs.Sizes.{product-fits, product-is}
 use borrow.Author.Needs.{needs}
-use Rattle.house.proofs.band.square_term.Statement.{statement}
-use Rattle.house.proofs.band.square_term.Tie as tie
+use Rattle.house.proofs.band.product_term.Statement.{statement}
+use Rattle.house.proofs.band.product_term.Tie as tie
 
 returns : tie.Need-returns
 returns c = rw (lt-leb _ _ (c .if1 .taken))
@@ -38,8 +38,8 @@ returns-4 c =
     rw (le-leb _ _ (c .before .before .before .before .if1 .left), le-leb _ _ (c .before .before .before .if2 .left), lt-ltb _ _ (c .before .before .if3 .left))
     (product-is (c .before .row-at .ensures) (c .row-at2 .ensures) (row-small (s .args .z) (s .args .m) (omega arith) (omega arith)) (row-small (s .args .z) (s .args .m - s .args .o) (omega arith) (omega arith)) (lit< tt) (lit< tt) (lit< tt))
 
-pub square-term-spec : {M : Type 1} → statement M
-square-term-spec =
+pub product-term-spec : {M : Type 1} → statement M
+product-term-spec =
     tie.close
     (tie.spec
     returns

@@ -4,7 +4,7 @@ use fields::Field;
 use fields::Step;
 use numbers::zigzag::Sign;
 ghost use mathlib.Core.Path.{_≡_};
-ghost use Prim.Native.Nat.{ℕ, _≤_};
+ghost use Prim.Native.Nat.{_≤_};
 ghost use lib.ListN.{length};
 ghost use lib.Seq.{sets};
 ghost use Rattle.packs.specs.Writing.{rawOf, steppedOf, putOf, writeFrom, inRoom, roomed, Measured, Leaves};

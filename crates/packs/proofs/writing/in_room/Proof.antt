@@ -1,12 +1,9 @@
 -- A refusal stands; room is tested against the length that was measured, and then the bytes are stored.
 use Rattle.packs.proofs.Onto.{room-short, room-fits, room-bytes}
-use lib.ListN.{length}
 use mathlib.Core.Path.{refl}
 use borrow.Author.Needs.{needs}
 use Rattle.packs.proofs.writing.in_room.Statement.{statement}
 use Rattle.packs.proofs.writing.in_room.Tie as tie
-use Rattle.packs.proofs.writing.in_room.Reads as reads
-use Rattle.packs.proofs.writing.in_room.Lts as lts
 use Rattle.packs.proofs.writing.emit.Reads as emit-reads
 
 enum-known-o : tie.Need-enum-known-o

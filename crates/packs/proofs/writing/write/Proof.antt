@@ -3,8 +3,6 @@ use mathlib.Core.Path.{sym, _∙_}
 use borrow.Author.Needs.{needs}
 use Rattle.packs.proofs.writing.write.Statement.{statement}
 use Rattle.packs.proofs.writing.write.Tie as tie
-use Rattle.packs.proofs.writing.write.Reads as reads
-use Rattle.packs.proofs.writing.write.Lts as lts
 use Rattle.packs.proofs.writing.in_room.Reads as in-room-reads
 use Rattle.packs.proofs.writing.measured.Reads as measured-reads
 

@@ -22,7 +22,7 @@ use Rattle.jobs.proofs.Readings.{read-jobs-allowed}
 use Rattle.jobs.proofs.Near.{job-read-near, job-written-near, proposal-written-near}
 use Rattle.house.specs.declared.factor.Ending.{Ending}
 use Rattle.house.specs.declared.factor.Ending.the-variants.{Whole, Thin}
-use Rattle.house.specs.Proposal.{wordsOf, writtenOf, onEnding, solvedOf, proposedOf, onRead, proposeOf}
+use Rattle.house.specs.Proposal.{wordsOf, writtenOf, onEnding, solvedOf, proposedOf, onJobRead, proposeOf}
 use Rattle.house.proofs.Thin.{thin-cell}
 use Rattle.bench.specs.Calls.{outcomeOf}
 use Rattle.bench.proofs.Small.{Small}
@@ -82,6 +82,6 @@ proposed-small room j A = go (solvedOf j .ending) refl
 pub propose-small : (room : ℕ) (job : List ℕ) → Small (outcomeOf (proposeOf room job .outcome))
 propose-small room job = go (readJob job .outcome) refl (job-read-near job)
   where
-    go : (o : Outcome) → readJob job .outcome ≡ o → Near 20870 o → Small (outcomeOf (onRead room (readJob job .words) o .outcome))
+    go : (o : Outcome) → readJob job .outcome ≡ o → Near 20870 o → Small (outcomeOf (onJobRead room (readJob job .words) o .outcome))
     go (Done k) e h = proposed-small room (jobOf (readJob job .words)) (read-jobs-allowed job k e)
     go (Refused number place) e h = record { number = omega (arith, h .1); place = h .2 }

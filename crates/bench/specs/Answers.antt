@@ -14,8 +14,8 @@ abbrev pub codeOf : Answer → ℕ
 codeOf a = 32 * a .place + a .number
 
 -- "and all four go into a lent slice"
-abbrev pub wordsOf : Answer → List ℕ
-wordsOf a = a .number ∷ a .place ∷ a .loss ∷ a .gap ∷ []
+abbrev pub answerWords : Answer → List ℕ
+answerWords a = a .number ∷ a .place ∷ a .loss ∷ a .gap ∷ []
 
 -- "a lent slice of exactly four 64-bit words; any other length is refused with 13, place 4, and only the returned number tells it"
 abbrev pub hasFour : (answer : List ℕ) → Bool
@@ -28,7 +28,7 @@ abbrev pub returnedFor : (answer : List ℕ) → Answer → ℕ
 returnedFor answer a = if hasFour answer then codeOf a else codeOf noAnswer
 
 abbrev pub writtenFor : (answer : List ℕ) → Answer → List ℕ
-writtenFor answer a = if hasFour answer then wordsOf a else answer
+writtenFor answer a = if hasFour answer then answerWords a else answer
 
 -- "A refusal changes no lent word": what a lent slice holds at the end, where a call with room for its answer makes it `after`.
 abbrev pub leftFor : {A : Type 0} → (answer : List ℕ) → (before after : List A) → List A

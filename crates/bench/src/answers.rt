@@ -1,15 +1,16 @@
 // What every call ends with: number, place, F and G in the lent answer, and one number returned that tells number and place.
 ghost use mathlib.Core.Path.{_≡_};
-ghost use Prim.Native.Nat.{_^_, _<_};
+ghost use Prim.Native.Nat.{_^_, _%_};
 ghost use lib.ListN.{length};
 ghost use Rattle.shelf.specs.Checked.{answerOf};
-ghost use Rattle.bench.specs.Answers.{codeOf, wordsOf};
+ghost use Rattle.bench.specs.Answers.{codeOf, answerWords};
 ghost use Rattle.bench.specs.Calls.{outcomeOf};
 use measure::check::Verdict;
 use numbers::zigzag::size_of;
 use packs::Outcome;
 use shelf::Answer;
 use shelf::plain;
+use std::num::wrapping_add_u64;
 
 // The words of an answer.
 pub const ANSWER_WORDS: usize = 4;
@@ -17,17 +18,20 @@ pub const ANSWER_WORDS: usize = 4;
 // What a call returns whose answer slice is not that long: 13, place 4.
 pub const NO_ANSWER: u64 = 141;
 
-// Write the answer and return its number and place as one.
+// A place counts 32 times in the number returned.
+const PLACE_SHIFT: u64 = 5;
+
+// Write the answer and return its number and place as one. No answer of a call is so large that this wraps, which is for the calls to show.
 pub fn give(answer: &mut [u64], a: Answer) -> u64
-    requires { ⌜ (length (now answer) ≡ 4) × (codeOf a < 2 ^ 64) ⌝ }
-    ensures { λ r. ⌜ (r ≡ codeOf a) × (now (answer .exit) ≡ wordsOf a) ⌝ }
+    requires { ⌜ length (now answer) ≡ 4 ⌝ }
+    ensures { λ r. ⌜ (r ≡ codeOf a % 2 ^ 64) × (now (answer .exit) ≡ answerWords a) ⌝ }
 {
     answer[0] = a.number;
     answer[1] = a.place;
     answer[2] = a.loss;
     answer[3] = a.gap;
-    let far = 32 * a.place;
-    far + a.number
+    let far = a.place << PLACE_SHIFT;
+    wrapping_add_u64(far, a.number)
 }
 
 // The answer for a verdict of the check.

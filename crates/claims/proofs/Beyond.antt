@@ -23,7 +23,7 @@ use Rattle.jobs.proofs.Handed.{six-done}
 use Rattle.jobs.proofs.Readings.{read-words-counted}
 use Rattle.house.specs.declared.factor.Ending.{Ending}
 use Rattle.house.specs.declared.factor.Ending.the-variants.{Whole, Thin}
-use Rattle.house.specs.Proposal.{wordsOf, onEnding, solvedOf, proposedOf, onRead, proposeOf}
+use Rattle.house.specs.Proposal.{wordsOf, onEnding, solvedOf, proposedOf, onJobRead, proposeOf}
 use Rattle.shelf.specs.declared.Slot.{Slot}
 use Rattle.shelf.specs.declared.Slot.the-variants.{At, Nowhere}
 use Rattle.shelf.specs.Slots.{Reply, refusal, joined, lowest, hasJob, atSlot, fetchAt, fetchIn, overwritten}
@@ -93,7 +93,7 @@ proposed-within : (room : ℕ) (j : Job) → Within (proposedOf room j .outcome)
 unfolding proposedOf
 proposed-within room j = ending-within room j (solvedOf j .values) (solvedOf j .ending)
 
-on-read-within : (room : ℕ) (words : List ℤ) (o : Outcome) → Within (onRead room words o .outcome) (onRead room words o .bytes)
+on-read-within : (room : ℕ) (words : List ℤ) (o : Outcome) → Within (onJobRead room words o .outcome) (onJobRead room words o .bytes)
 on-read-within room words (Done k) = proposed-within room (jobOf words)
 on-read-within room words (Refused number place) = omega arith
 

@@ -24,7 +24,7 @@ use Rattle.measure.specs.declared.check.Verdict.the-variants.{Accepted, Refused
 use Rattle.measure.specs.Check.{checkOf}
 use Rattle.house.specs.declared.factor.Ending.{Ending}
 use Rattle.house.specs.declared.factor.Ending.the-variants.{Whole, Thin}
-use Rattle.house.specs.Proposal.{wordsOf, onEnding, solvedOf, proposedOf, onRead, proposeOf}
+use Rattle.house.specs.Proposal.{wordsOf, onEnding, solvedOf, proposedOf, onJobRead, proposeOf}
 use Rattle.house.proofs.Writable.{house-writes}
 use Rattle.shelf.specs.declared.Slot.{Slot}
 use Rattle.shelf.specs.declared.Slot.the-variants.{At, Nowhere}
@@ -97,7 +97,7 @@ proposed-number room j A = go (solvedOf j .ending)
 pub propose-number : (room : ℕ) (job : List ℕ) → HouseNumber (proposeOf room job)
 propose-number room job = go (readJob job .outcome) refl (job-read-near job)
   where
-    go : (o : Outcome) → readJob job .outcome ≡ o → Near 20870 o → HouseNumber (onRead room (readJob job .words) o)
+    go : (o : Outcome) → readJob job .outcome ≡ o → Near 20870 o → HouseNumber (onJobRead room (readJob job .words) o)
     go (Done k) e h = proposed-number room (jobOf (readJob job .words)) (read-jobs-allowed job k e)
     go (Refuses number place) e h = inr (inr (h .1))
 

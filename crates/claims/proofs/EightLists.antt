@@ -12,7 +12,7 @@ use borrow.Author.Tests.{leb-true, eqb-true, eqb-false}
 use Rattle.shelf.specs.Slots.{Reply, refusal, keptIn, forgotIn, forgetReply, fetchIn}
 use Rattle.shelf.specs.Checked.{Checked, checkedOf, accepted}
 use Rattle.shelf.specs.Shelf.{Layout, slotFrom, spanOf, sizeOf, onSociety, fromSociety, keptShelf, fetchReply, forgotShelf, forgotReply, cleared}
-use Rattle.shelf.specs.Calls.{Call, keep, fetch, forget, clear, wholeAfter, wholeSaid, after, said, runOf}
+use Rattle.shelf.specs.Calls.{Call, keep, fetch, forget, clear, wholeAfter, wholeSaid, after, said, shelfRun}
 use Rattle.shelf.proofs.Moves.{slot-length}
 use Rattle.shelf.proofs.Lengths.{on-whole, from-whole}
 use Rattle.shelf.proofs.Sound.{Sound, accepted-sound}
@@ -139,12 +139,12 @@ module _ (l : Layout) (ok : Lawful l) where
   pub sim-said : (call : Call) (xs : List ℕ) (lists : Lists) → Sim l xs lists → said l xs call ≡ listsSay lists call
   sim-said call xs lists sim = sym (from-whole l xs (sim .long) (λ s. wholeSaid l s call)) ∙ whole-said call xs lists sim
 
-  sim-run : (calls : List Call) (xs : List ℕ) (lists : Lists) → Sim l xs lists → runOf l xs calls ≡ listsRun (l .count) lists calls
+  sim-run : (calls : List Call) (xs : List ℕ) (lists : Lists) → Sim l xs lists → shelfRun l xs calls ≡ listsRun (l .count) lists calls
   sim-run [] xs lists sim = refl
   sim-run (call ∷ calls) xs lists sim =
-      ap (λ (r : Reply). r ∷ runOf l (after l xs call) calls) (sim-said call xs lists sim)
+      ap (λ (r : Reply). r ∷ shelfRun l (after l xs call) calls) (sim-said call xs lists sim)
       ∙ ap (λ (rs : List Reply). listsSay lists call ∷ rs) (sim-run calls (after l xs call) (listsAfter (l .count) lists call) (sim-after call xs lists sim))
 
   -- for any lawful layout
-  pub lists-of : (calls : List Call) → runOf l (cleared l) calls ≡ listsRun (l .count) nothing calls
+  pub lists-of : (calls : List Call) → shelfRun l (cleared l) calls ≡ listsRun (l .count) nothing calls
   lists-of calls = sim-run calls (cleared l) nothing sim-cleared

@@ -16,6 +16,7 @@ use Rattle.certificate.specs.Differences.{difference}
 use Rattle.jobs.specs.Job.{Job}
 use Rattle.jobs.specs.Allowed.{Allowed}
 use Rattle.jobs.proofs.Readings.{read-jobs-allowed}
+use Rattle.jobs.proofs.Places.{upto-nonneg}
 use Rattle.measure.specs.declared.check.Verdict.{Verdict}
 use Rattle.measure.specs.declared.check.Verdict.the-variants.{Accepted, Refused}
 use Rattle.measure.specs.Loss.{familyOf, lossOf}
@@ -32,7 +33,6 @@ use Rattle.claims.specs.Lists.{Table, tableFrom, isOf, handed, fetched, 
 use Rattle.claims.specs.LastKept.{shelfAfter, listsAfterAll, held, given}
 use Rattle.claims.specs.Fetched.{Sent, WasAccepted}
 use Rattle.claims.specs.Verdicts.{Acceptable}
-use Rattle.claims.proofs.Problem.{upto-not-negative}
 use Rattle.claims.proofs.Accepted.{accepted-exactly}
 use Rattle.claims.proofs.Terms.{no-term-negative}
 use Rattle.claims.proofs.Best.{best}
@@ -120,8 +120,8 @@ natural (negsuc n) h = absurd (h .le)
 loss-not-negative : (j : Job) → Allowed j → (v : ℕ → ℤ) → pos 0 ≤ℤ lossOf j v
 unfolding lossOf
 loss-not-negative j A v =
-    +ℤ-nonneg (sum-nonneg (j .cells) (λ i h. *ℤ-nonneg (upto-not-negative (j .weight i) (A .cell i h .weight)) (sq-nonneg (v i -ℤ j .crude i))))
-    (*ℤ-nonneg (upto-not-negative (j .constant) (A .constant)) (sum-nonneg (familyOf j .count) (λ i h. sq-nonneg (difference (familyOf j) v i))))
+    +ℤ-nonneg (sum-nonneg (j .cells) (λ i h. *ℤ-nonneg (upto-nonneg (A .cell i h .weight)) (sq-nonneg (v i -ℤ j .crude i))))
+    (*ℤ-nonneg (upto-nonneg (A .constant)) (sum-nonneg (familyOf j .count) (λ i h. sq-nonneg (difference (familyOf j) v i))))
 
 record Verdicted (job proposal : List ℕ) (v : Verdict) : Type 0 where
   as-answered : checkOf job proposal ≡ Accepted (pos (answerOf v .loss)) (pos (answerOf v .gap))

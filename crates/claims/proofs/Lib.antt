@@ -1,3 +1,4 @@
+-- The proofs of the claims. Those named in docs/CLAIMS.md stand in the files called as their statements are; the others are laws on the way.
 pub mod Problem
 pub mod Lowest
 pub mod Numbers
@@ -16,7 +17,7 @@ pub mod Refusals
 pub mod Fetched
 pub mod Layouts
 pub mod ShelfPromises
-pub mod House
+pub mod HousePromises
 pub mod Unwritten
 pub mod Beyond
 pub mod CallNumbers

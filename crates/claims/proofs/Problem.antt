@@ -3,11 +3,10 @@
 use Prim.Native.Nat.{ℕ, _<_}
 use mathlib.Core.Path.{_≡_, sym, ap, ap₂, subst, _∙_}
 use native.Mathlib.Omega.{arith}
-use lib.IntN.{ℤ, pos, natAbs, _+ℤ_, _-ℤ_, _*ℤ_}
+use lib.IntN.{ℤ, pos, _+ℤ_, _-ℤ_, _*ℤ_}
 use lib.Signed.{_≤ℤ_}
 use Rattle.whole.specs.Sum.{sum}
 use Rattle.whole.proofs.Ring.{*ℤ-assoc}
-use Rattle.whole.proofs.Order.{pos-nonneg}
 use Rattle.whole.proofs.Sums.{sum-cong, sum-ext, sum-*l}
 use Rattle.whole.proofs.Rows.{row-value}
 use Rattle.certificate.specs.Problem.{Problem, squared, loss, scaledLoss, link, residual, gap}
@@ -16,7 +15,8 @@ use Rattle.certificate.specs.Terms.{cellTerm, terms, NotNegative}
 use Rattle.certificate.specs.Differences.{Inside, difference, coefficient}
 use Rattle.certificate.proofs.Differences.{difference-is-form, smooth-loss}
 use Rattle.jobs.specs.Job.{Job}
-use Rattle.jobs.specs.Allowed.{Upto, Allowed}
+use Rattle.jobs.specs.Allowed.{Allowed}
+use Rattle.jobs.proofs.Places.{upto-nonneg}
 use Rattle.measure.specs.Loss.{familyOf, fitOf, lossOf}
 use Rattle.measure.specs.Gap.{linkSum, linkCoefficient, residualOf, limit, gapOf}
 use Rattle.claims.specs.Meets.{Meets, scaledLossOf}
@@ -35,10 +35,6 @@ problemOf j = record {
   c = linkCoefficient j;
   b = j .bound;
 }
-
--- what is allowed from 0 on is not negative
-pub upto-not-negative : {most : ℕ} (z : ℤ) → Upto most z → pos 0 ≤ℤ z
-upto-not-negative z u = subst (λ (x : ℤ). pos 0 ≤ℤ x) (sym (u .natural)) (pos-nonneg (natAbs z))
 
 module _ (j : Job) where
   inside : Inside (familyOf j) (j .cells)
@@ -93,7 +89,7 @@ module _ (j : Job) (A : Allowed j) where
 
   pub not-negative : (y : ℕ → ℤ) → ((l : ℕ) → l < j .links → pos 0 ≤ℤ y l) → NotNegative (problemOf j) y
   not-negative y h = record {
-    weights = λ i k. upto-not-negative (j .weight i) (A .cell i k .weight);
-    constants = λ f k. upto-not-negative (j .constant) (A .constant);
+    weights = λ i k. upto-nonneg (A .cell i k .weight);
+    constants = λ f k. upto-nonneg (A .constant);
     multipliers = h;
   }

@@ -9,11 +9,11 @@ use Rattle.whole.proofs.Parts.{sum-longer}
 use Rattle.certificate.proofs.Terms.{cell-terms-not-negative}
 use Rattle.jobs.specs.Job.{Job}
 use Rattle.jobs.proofs.Readings.{read-proposals-proposed}
+use Rattle.jobs.proofs.Places.{upto-nonneg}
 use Rattle.measure.specs.Gap.{residualOf, limit, cellTermOf, linkTermOf, gapOf}
 use Rattle.claims.specs.Read.{jobIn, valuesIn, multipliersIn, BothRead}
 use Rattle.claims.specs.Meets.{EveryInBox, EveryLinkHolds, NoneNegative}
 use Rattle.claims.specs.Promises.{NoTermNegative}
-use Rattle.claims.proofs.Problem.{upto-not-negative}
 
 module _ (j : Job) (v y : ℕ → ℤ) (I : EveryInBox j v) (H : EveryLinkHolds j v) (S : (l : ℕ) → l < j .links → pos 0 ≤ℤ y l) where
   cell-term : (i : ℕ) → i < j .cells → pos 0 ≤ℤ cellTermOf j v y i
@@ -34,7 +34,7 @@ module _ (j : Job) (v y : ℕ → ℤ) (I : EveryInBox j v) (H : EveryLinkHolds 
 -- a multiplier that was read is not negative
 pub multipliers-read : (job proposal : List ℕ) → BothRead job proposal → (l : ℕ) → l < jobIn job .links → pos 0 ≤ℤ multipliersIn job proposal l
 multipliers-read job proposal B l h =
-    upto-not-negative (multipliersIn job proposal l)
+    upto-nonneg
     (read-proposals-proposed (jobIn job .cells) (jobIn job .links) proposal (B .proposal-reads .0) (B .proposal-reads .1) .multiplier l h)
 
 pub no-term-negative : NoTermNegative

@@ -19,7 +19,7 @@ use Rattle.measure.specs.declared.check.Verdict.{Verdict}
 use Rattle.measure.specs.declared.check.Verdict.the-variants.{Accepted, Refused}
 use Rattle.house.specs.declared.factor.Ending.{Ending}
 use Rattle.house.specs.declared.factor.Ending.the-variants.{Whole, Thin}
-use Rattle.house.specs.Proposal.{wordsOf, onEnding, solvedOf, proposedOf, onRead, proposeOf}
+use Rattle.house.specs.Proposal.{wordsOf, onEnding, solvedOf, proposedOf, onJobRead, proposeOf}
 use Rattle.shelf.specs.declared.Answer.{Answer}
 use Rattle.shelf.specs.Slots.{overwritten}
 use Rattle.shelf.specs.Checked.{answerOf}
@@ -70,7 +70,7 @@ proposed-nothing : (room : ℕ) (j : Job) → Nothing (proposedOf room j .outcom
 unfolding proposedOf
 proposed-nothing room j n = ending-nothing room j (solvedOf j .values) (solvedOf j .ending) n
 
-on-read-nothing : (room : ℕ) (words : List ℤ) (o : Outcome) → Nothing (onRead room words o .outcome) (onRead room words o .bytes)
+on-read-nothing : (room : ℕ) (words : List ℤ) (o : Outcome) → Nothing (onJobRead room words o .outcome) (onJobRead room words o .bytes)
 on-read-nothing room words (Done k) n = proposed-nothing room (jobOf words) n
 on-read-nothing room words (Refuses number place) n = refl
 

@@ -14,7 +14,7 @@ use Rattle.measure.specs.Check.{checkOf}
 use Rattle.claims.specs.Read.{jobIn, proposalIn, valuesIn, multipliersIn, Reads, BothRead}
 use Rattle.claims.specs.Meets.{EveryInBox, EveryLinkHolds, Meets, scaledLossOf, NoneNegative}
 use Rattle.claims.specs.Verdicts.{Acceptable, Outside, Broken, Above}
-use Rattle.claims.specs.Worked.{Table, plain, starred}
+use Rattle.claims.specs.Worked.{WorkedTable, plain, starred}
 
 -- ---- accepted exactly, and what each refusal means
 
@@ -82,5 +82,5 @@ AcceptedMeets =
 -- The check gives each starred table its verdict; and for u 0 1 0, "d 7, X 2 3 2 has 28".
 abbrev pub WorkedTables : Type 0
 WorkedTables =
-    (map (λ (t : Table). checkOf (t .job) (t .proposal)) starred ≡ map (λ (t : Table). t .verdict) starred)
+    (map (λ (t : WorkedTable). checkOf (t .job) (t .proposal)) starred ≡ map (λ (t : WorkedTable). t .verdict) starred)
     × (scaledLossOf (jobIn (plain (1 ∷ []) 0 1 0)) (pos 7) (wordAt (pos 2 ∷ pos 3 ∷ pos 2 ∷ [])) ≡ pos 28)

@@ -9,7 +9,7 @@ use mathlib.Core.List.{List, []}
 use lib.ListN.{length}
 use Rattle.shelf.specs.Slots.{Reply, refusal}
 use Rattle.shelf.specs.Shelf.{base, spanOf, cleared}
-use Rattle.shelf.specs.Calls.{Call, fetch, after, said, runOf, names}
+use Rattle.shelf.specs.Calls.{Call, fetch, after, said, shelfRun, names}
 use Rattle.claims.specs.Lists.{Table, holds, nothing, listsRun, four}
 use Rattle.claims.specs.Heard.{heard, without}
 use Rattle.claims.specs.LastKept.{lastKept, shelfAfter, held, given}
@@ -20,7 +20,7 @@ use Rattle.claims.specs.Fetched.{WasAccepted}
 -- From a cleared shelf, any sequence of calls answers as eight separate lists of at most four tables would: number, place, F, G and the values
 -- handed out.
 abbrev pub EightLists : Type 0
-EightLists = (calls : List Call) → runOf base (cleared base) calls ≡ listsRun four nothing calls
+EightLists = (calls : List Call) → shelfRun base (cleared base) calls ≡ listsRun four nothing calls
 
 -- ---- no neighbour
 

@@ -5,12 +5,12 @@ use lib.IntN.{pos}
 use Rattle.measure.specs.declared.check.Verdict.{Verdict}
 use Rattle.measure.specs.declared.check.Verdict.the-variants.{Accepted, Refused}
 
-pub record Table : Type 0 where
+pub record WorkedTable : Type 0 where
   pub job : List ℕ
   pub proposal : List ℕ
   pub verdict : Verdict
 
-abbrev table : (job proposal : List ℕ) → Verdict → Table
+abbrev table : (job proposal : List ℕ) → Verdict → WorkedTable
 table job proposal verdict = record { job = job; proposal = proposal; verdict = verdict }
 
 -- "All: n 3, order 2, k 1, box 0..100": society 3, job 7, then T by its bytes, the cells by their crude rates and weights, and the links.
@@ -38,7 +38,7 @@ abbrev hollow : (tolerance : List ℕ) (u₀ u₁ u₂ : ℕ) → List ℕ
 hollow tolerance u₀ u₁ u₂ = jobPack tolerance (cell u₀ 1) (cell u₁ 0) (cell u₂ 1) noLink
 
 -- Where the document names no T it is the table's own G, the least that accepts it. 784 is 90 06 (hex), and 783 is 8F 06.
-abbrev pub starred : List Table
+abbrev pub starred : List WorkedTable
 starred =
     -- "u 0 7 0, v 2 3 2: F 28, G 0"; "v 2 3 3: F 30, G 9"
     table (plain (0 ∷ []) 0 7 0) (2 ∷ 3 ∷ 2 ∷ []) (Accepted (pos 28) (pos 0))

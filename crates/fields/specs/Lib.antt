@@ -1,1 +1,2 @@
+-- The table of fields.
 pub mod Table

@@ -33,7 +33,7 @@ use Rattle.jobs.proofs.Handed.{six-done}
 use Rattle.jobs.proofs.Trips.{proposals-read-back}
 use Rattle.house.specs.declared.factor.Ending.{Ending}
 use Rattle.house.specs.declared.factor.Ending.the-variants.{Whole, Thin}
-use Rattle.house.specs.Proposal.{solvedOf, valueOf, wordsOf, onEnding, proposedOf, onRead}
+use Rattle.house.specs.Proposal.{solvedOf, valueOf, wordsOf, onEnding, proposedOf, onJobRead}
 use Rattle.house.specs.Promises.{Fit, ProposalsFit, ProposalsCounted}
 use Rattle.house.proofs.Boxed.{value-between, value-small}
 use Rattle.house.proofs.Fills.{filled-at, filled-other, length-filled}
@@ -79,7 +79,7 @@ record Read-by (room : ℕ) (ws : List ℤ) (o : Outcome) (r : Written) (n : ℕ
   pub read : o ≡ Done count
   pub done : Done-by room (jobOf ws) r n
 
-on-read : (room : ℕ) (ws : List ℤ) (o : Outcome) (n : ℕ) → onRead room ws o .outcome ≡ Done n → Read-by room ws o (onRead room ws o) n
+on-read : (room : ℕ) (ws : List ℤ) (o : Outcome) (n : ℕ) → onJobRead room ws o .outcome ≡ Done n → Read-by room ws o (onJobRead room ws o) n
 on-read room ws (Refused number place) n h = clash (cc)
 on-read room ws (Done k) n h = record { count = k; read = refl; done = proposed room (jobOf ws) n h }
 

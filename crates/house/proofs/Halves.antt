@@ -5,7 +5,7 @@ use mathlib.Core.Bool.{Bool, true, false, true≢false}
 use Prim.Native.Nat.{ℕ, zero, suc, _+_, _-_, _*_, _^_, _≤_, _<_, zero-le}
 use native.Mathlib.Nat.{suc-mul, add-mul, lt-of-mul-lt-mul-right, mul-one, one-mul, mul-assoc, mul-right-comm, mul-pos, lt-of-le-of-lt, mul-le-mul-right}
 use native.Mathlib.Omega.{arith}
-use lib.Dec.{T, ltb, leb, lt→ltb, ltb→lt, lit<}
+use lib.Dec.{T, leb, lt→ltb, ltb→lt, lit<}
 use lib.IntN.{pos}
 use lib.Ieee.{Float, nan, inf, fin, binary64, up, down, round, sum, add, sub, neg, le, lt, ofInt, ofBits}
 use lib.Ieee.Exact.{HasValue, round-exact}

@@ -19,7 +19,7 @@ use Rattle.house.specs.declared.factor.Ending.the-variants.{Whole, Thin}
 use Rattle.house.specs.declared.proposal.Solved.{Solved}
 use Rattle.house.specs.Known.{Known}
 use Rattle.house.specs.Filled.{filled}
-use Rattle.house.specs.Proposal.{solvedOf, valueOf, wordsOf, writtenOf, onEnding, proposedOf, onRead, proposeOf}
+use Rattle.house.specs.Proposal.{solvedOf, valueOf, wordsOf, writtenOf, onEnding, proposedOf, onJobRead, proposeOf}
 use Rattle.house.proofs.Fills.{take-filled}
 
 -- ---- the words of the job
@@ -30,7 +30,7 @@ module _ (s : List ℕ) {k : ℕ} (e : readJob s .outcome ≡ Done k) {scratch :
 
   pub part-proposed : (room : ℕ) → proposedOf room (jobOf (take (k - 0) scratch)) ≡ proposeOf room s
   part-proposed room =
-      ap {B = Written} (λ (ws : List ℤ). proposedOf room (jobOf ws)) (scratch-part s e stored) ∙ ap {B = Written} (onRead room (readJob s .words)) (sym e)
+      ap {B = Written} (λ (ws : List ℤ). proposedOf room (jobOf ws)) (scratch-part s e stored) ∙ ap {B = Written} (onJobRead room (readJob s .words)) (sym e)
 
 -- ---- the case that the factoring's ending picks
 

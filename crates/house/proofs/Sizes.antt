@@ -15,7 +15,7 @@ use Rattle.whole.proofs.Fits.{small-fits, fits-by, gives, Adds, partial-small}
 use Rattle.whole.proofs.Magnitude.{bound-+, bound-*}
 use Rattle.rows.specs.Rows.{rowOf}
 use Rattle.rows.proofs.Rule.{row-small}
-use Rattle.house.specs.Band.{usesBoth, squareTerm, squaresAt, wholeEntry}
+use Rattle.house.specs.Band.{usesBoth, productTerm, squaresAt, wholeEntry}
 
 -- ---- an exact cast
 
@@ -41,14 +41,14 @@ module _ {a b x y : ℤ} (e : a ≡ x) (d : b ≡ y) {m n : ℕ} (h : natAbs x �
 
 -- ---- K'K
 
-term-small : (n z i o m : ℕ) → z ≤ 4 → m ≤ z → natAbs (squareTerm n z i o m) ≤ 36
+term-small : (n z i o m : ℕ) → z ≤ 4 → m ≤ z → natAbs (productTerm n z i o m) ≤ 36
 term-small n z i o m h k = go (usesBoth n z i o m)
   where
     go : (t : Bool) → natAbs (if t then rowOf z m *ℤ rowOf z (m - o) else pos 0) ≤ 36
     go true = bound-* (rowOf z m) (rowOf z (m - o)) (row-small z m h (omega arith)) (row-small z (m - o) h (omega arith))
     go false = omega arith
 
-pub squares-adds : (n z i o : ℕ) → z ≤ 4 → Adds (squareTerm n z i o) (suc z) 36
+pub squares-adds : (n z i o : ℕ) → z ≤ 4 → Adds (productTerm n z i o) (suc z) 36
 squares-adds n z i o h = record { small = λ m k. term-small n z i o m h (omega arith); room = N.lt-of-le-of-lt (room-few z h) (lit< tt) }
   where
     room-few : (z : ℕ) → z ≤ 4 → suc z * 36 + 36 ≤ 216

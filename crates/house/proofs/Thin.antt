@@ -12,7 +12,7 @@ use Rattle.house.specs.declared.factor.Pivot.the-variants.{Accepted, Thi
 use Rattle.house.specs.declared.factor.Ending.{Ending}
 use Rattle.house.specs.declared.factor.Ending.the-variants.{Whole, Thin}
 use Rattle.house.specs.Band.{bandOf}
-use Rattle.house.specs.Factor.{Band, Factor, stepOf, onPivot, factorFrom}
+use Rattle.house.specs.Factor.{Band, Factor, factorStep, onPivot, factorFrom}
 use Rattle.house.specs.Proposal.{solvedBy, solvedOf, factorFor}
 
 -- the ending of n rows from row j on, where the later ones' is known
@@ -26,7 +26,7 @@ from-row : (band : Band) (z n j : ℕ) (d : List Float) (l : List (List Float)) 
 unfolding factorFrom
 from-row band z zero j d l e = clash (cc)
 from-row band z (suc n) j d l e =
-    let step = stepOf (getD band j []) d l z j in
+    let step = factorStep (getD band j []) d l z j in
     let d1 = set d j (step .row .pivot) in
     let l1 = set l j (step .row .multipliers) in
     by-pivot (step .pivot) j n d1 l1 (factorFrom band z n (j + 1) d1 l1) (from-row band z n (j + 1) d1 l1) e

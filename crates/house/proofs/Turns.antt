@@ -10,7 +10,7 @@ use Rattle.house.specs.declared.factor.Step.{Step}
 use Rattle.house.specs.declared.factor.Pivot.the-variants.{Accepted, Thin as ThinPivot}
 use Rattle.house.specs.declared.factor.Ending.{Ending}
 use Rattle.house.specs.declared.factor.Ending.the-variants.{Whole, Thin}
-use Rattle.house.specs.Factor.{Band, Factor, pivotAt, lessBy, lowest, productOf, multiplierOf, multipliersFrom, noMultipliers, pivotOf, judged, answered, stepOf, onPivot, factorFrom}
+use Rattle.house.specs.Factor.{Band, Factor, pivotAt, lessBy, lowest, productOf, multiplierOf, rowFrom, noMultipliers, pivotOf, judged, answered, factorStep, onPivot, factorFrom}
 use Rattle.house.specs.Solve.{highest, lowerTerm, upperTerm, forwardFrom, dividedFrom, backwardFrom}
 
 -- from i to n, a turn is left for i and one for each number after it
@@ -30,13 +30,13 @@ module _ (t : ℕ → Float) (m n : ℕ) (x : Float) where
   less-done h = ap (λ (k : ℕ). lessBy t m k x) (none m n h)
 
 module _ (entries d : List Float) (l : List (List Float)) (j lo i : ℕ) (made : List Float) where
-  pub multipliers-more : i < j → multipliersFrom entries d l j lo (j - i) i made ≡ multipliersFrom entries d l j lo (j - (i + 1)) (i + 1) (set made (j - i - 1) (multiplierOf entries d l j lo i made))
-  unfolding multipliersFrom
-  multipliers-more h = ap (λ (k : ℕ). multipliersFrom entries d l j lo k i made) (turn i j h)
+  pub multipliers-more : i < j → rowFrom entries d l j lo (j - i) i made ≡ rowFrom entries d l j lo (j - (i + 1)) (i + 1) (set made (j - i - 1) (multiplierOf entries d l j lo i made))
+  unfolding rowFrom
+  multipliers-more h = ap (λ (k : ℕ). rowFrom entries d l j lo k i made) (turn i j h)
 
-  pub multipliers-done : j ≤ i → multipliersFrom entries d l j lo (j - i) i made ≡ made
-  unfolding multipliersFrom
-  multipliers-done h = ap (λ (k : ℕ). multipliersFrom entries d l j lo k i made) (none i j h)
+  pub multipliers-done : j ≤ i → rowFrom entries d l j lo (j - i) i made ≡ made
+  unfolding rowFrom
+  multipliers-done h = ap (λ (k : ℕ). rowFrom entries d l j lo k i made) (none i j h)
 
 -- ---- a step's answer, by the comparison with 1/1,024
 
@@ -50,9 +50,9 @@ module _ (x : Float) (lj : List Float) where
   thin e = ap {B = Step} (λ (b : Bool). record { pivot = judged b x; row = record { pivot = x; multipliers = lj } }) (sym e)
 
 module _ (entries d : List Float) (l : List (List Float)) (z j : ℕ) where
-  pub step-is : {lo : ℕ} {lj : List Float} {x : Float} → lo ≡ lowest j z → lj ≡ multipliersFrom entries d l j lo (j - lo) lo noMultipliers
-      → x ≡ lessBy (productOf lj j lj j d) lo (j - lo) (getD entries 0 nan) → answered x lj ≡ stepOf entries d l z j
-  unfolding stepOf pivotOf
+  pub step-is : {lo : ℕ} {lj : List Float} {x : Float} → lo ≡ lowest j z → lj ≡ rowFrom entries d l j lo (j - lo) lo noMultipliers
+      → x ≡ lessBy (productOf lj j lj j d) lo (j - lo) (getD entries 0 nan) → answered x lj ≡ factorStep entries d l z j
+  unfolding factorStep pivotOf
   step-is {lo} {lj} {x} el ej ex =
       rw (ex, ej, el)
 
@@ -62,11 +62,11 @@ module _ (band : Band) (z j : ℕ) (d : List Float) (l : List (List Float)) (n :
   abbrev pub after : Step → Factor
   after s = factorFrom band z (n - (j + 1)) (j + 1) (set d j (s .row .pivot)) (set l j (s .row .multipliers))
 
-  opened : factorFrom band z (n - j) j d l ≡ onPivot (stepOf (getD band j []) d l z j .pivot) j (set d j (stepOf (getD band j []) d l z j .row .pivot)) (set l j (stepOf (getD band j []) d l z j .row .multipliers)) (after (stepOf (getD band j []) d l z j))
+  opened : factorFrom band z (n - j) j d l ≡ onPivot (factorStep (getD band j []) d l z j .pivot) j (set d j (factorStep (getD band j []) d l z j .row .pivot)) (set l j (factorStep (getD band j []) d l z j .row .multipliers)) (after (factorStep (getD band j []) d l z j))
   unfolding factorFrom
   opened = ap {B = Factor} (λ (k : ℕ). factorFrom band z k j d l) (turn j n h)
 
-  module _ {s : Step} (e : s ≡ stepOf (getD band j []) d l z j) {x : Float} where
+  module _ {s : Step} (e : s ≡ factorStep (getD band j []) d l z j) {x : Float} where
     pub factor-more : s .pivot ≡ Accepted x → factorFrom band z (n - j) j d l ≡ after s
     factor-more a = rw (← e, a) at opened
 

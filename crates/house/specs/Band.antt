@@ -17,12 +17,12 @@ use Rattle.house.specs.Filled.{filled}
 abbrev pub usesBoth : (n z i o m : ℕ) → Bool
 usesBoth n z i o m = leb o m && (leb m i && ltb (i - m + z) n)
 
-abbrev pub squareTerm : (n z i o m : ℕ) → ℤ
-squareTerm n z i o m = if usesBoth n z i o m then rowOf z m *ℤ rowOf z (m - o) else pos 0
+abbrev pub productTerm : (n z i o m : ℕ) → ℤ
+productTerm n z i o m = if usesBoth n z i o m then rowOf z m *ℤ rowOf z (m - o) else pos 0
 
 -- K'K at (i, i - o): over every difference that uses both cells, the product of its two coefficients.
 abbrev pub squaresAt : (n z i o : ℕ) → ℤ
-squaresAt n z i o = sum (suc z) (squareTerm n z i o)
+squaresAt n z i o = sum (suc z) (productTerm n z i o)
 
 -- W + kK'K at (i, i - o), by the weight of the cell i and K'K there; W is 0 off the diagonal.
 abbrev pub wholeEntry : (w k squares : ℤ) (o : ℕ) → ℤ

@@ -42,11 +42,11 @@ multiplierOf entries d l j lo i made =
     div binary64 (lessBy (productOf made j (getD l i []) i d) lo (i - lo) (getD entries (j - i) nan)) (pivotAt d i)
 
 -- "For j rising, for i from max(0, j-z) to j-1": n multipliers of row j, from the given i on.
-unfoldable pub multipliersFrom : (entries d : List Float) (l : List (List Float)) (j lo n i : ℕ) (made : List Float) → List Float
+unfoldable pub rowFrom : (entries d : List Float) (l : List (List Float)) (j lo n i : ℕ) (made : List Float) → List Float
 unfolding multiplierOf
-multipliersFrom entries d l j lo zero i made = made
-multipliersFrom entries d l j lo (suc n) i made =
-    multipliersFrom entries d l j lo n (i + 1) (set made (j - i - 1) (multiplierOf entries d l j lo i made))
+rowFrom entries d l j lo zero i made = made
+rowFrom entries d l j lo (suc n) i made =
+    rowFrom entries d l j lo n (i + 1) (set made (j - i - 1) (multiplierOf entries d l j lo i made))
 
 abbrev pub noMultipliers : List Float
 noMultipliers = replicate 4 (fin false 0 (pos 0))
@@ -69,10 +69,10 @@ judged false x = ThinPivot x
 abbrev pub answered : (pivot : Float) (multipliers : List Float) → Step
 answered x lj = record { pivot = judged (lt least x) x; row = record { pivot = x; multipliers = lj } }
 
-unfoldable pub stepOf : (entries d : List Float) (l : List (List Float)) (z j : ℕ) → Step
-unfolding multipliersFrom pivotOf
-stepOf entries d l z j =
-    let lj = multipliersFrom entries d l j (lowest j z) (j - lowest j z) (lowest j z) noMultipliers in
+unfoldable pub factorStep : (entries d : List Float) (l : List (List Float)) (z j : ℕ) → Step
+unfolding rowFrom pivotOf
+factorStep entries d l z j =
+    let lj = rowFrom entries d l j (lowest j z) (j - lowest j z) (lowest j z) noMultipliers in
     answered (pivotOf entries d j (lowest j z) lj) lj
 
 -- How the factoring ends, and the rows made: pivots and multipliers, cell by cell.
@@ -87,10 +87,10 @@ onPivot (ThinPivot x) j d l rest = record { ending = Thin j x; pivots = d; multi
 
 -- n rows from row j on, or up to the first thin one.
 unfoldable pub factorFrom : Band → (z n j : ℕ) (d : List Float) (l : List (List Float)) → Factor
-unfolding stepOf
+unfolding factorStep
 factorFrom band z zero j d l = record { ending = Whole; pivots = d; multipliers = l }
 factorFrom band z (suc n) j d l =
-    let step = stepOf (getD band j []) d l z j in
+    let step = factorStep (getD band j []) d l z j in
     let d1 = set d j (step .row .pivot) in
     let l1 = set l j (step .row .multipliers) in
     onPivot (step .pivot) j d1 l1 (factorFrom band z n (j + 1) d1 l1)

@@ -1,3 +1,4 @@
+-- What the functions of this crate count on and how they fill a list; then the rules in their order, and what is promised.
 pub mod Known
 pub mod Filled
 pub mod Band

@@ -54,9 +54,9 @@ unfolding solvedOf
 proposedOf room j = onEnding room j (solvedOf j .values) (solvedOf j .ending)
 
 -- The proposal for a job pack: the job's own refusals come first.
-abbrev pub onRead : (room : ℕ) → List ℤ → Outcome → Written
-onRead room ws (Done k) = proposedOf room (jobOf ws)
-onRead room ws (Refused number place) = refused number place
+abbrev pub onJobRead : (room : ℕ) → List ℤ → Outcome → Written
+onJobRead room ws (Done k) = proposedOf room (jobOf ws)
+onJobRead room ws (Refused number place) = refused number place
 
 abbrev pub proposeOf : (room : ℕ) → List ℕ → Written
-proposeOf room s = onRead room (readJob s .words) (readJob s .outcome)
+proposeOf room s = onJobRead room (readJob s .words) (readJob s .outcome)

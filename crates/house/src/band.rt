@@ -6,7 +6,7 @@ ghost use lib.IntN.{natAbs, _*ℤ_};
 ghost use lib.Ieee.{binary64, ofInt};
 ghost use Rattle.jobs.specs.Words.{jobOf, cellsOf};
 ghost use Rattle.house.specs.Known.{Known};
-ghost use Rattle.house.specs.Band.{squareTerm, squaresAt, wholeEntry, entriesOf, bandOf, rightOf};
+ghost use Rattle.house.specs.Band.{productTerm, squaresAt, wholeEntry, entriesOf, bandOf, rightOf};
 
 fn cast(x: i64) -> f64
     requires { ⌜ natAbs x ≤ 1000000000 ⌝ }
@@ -16,9 +16,9 @@ fn cast(x: i64) -> f64
 }
 
 // What the difference at i - m brings to K'K at (i, i - o): nothing where it does not use both cells.
-fn square_term(n: usize, z: usize, i: usize, o: usize, m: usize) -> i64
+fn product_term(n: usize, z: usize, i: usize, o: usize, m: usize) -> i64
     requires { ⌜ (n ≤ 120) × (z ≤ 4) × (i < n) × (m ≤ z) ⌝ }
-    ensures { λ r. ⌜ r ≡ squareTerm n z i o m ⌝ }
+    ensures { λ r. ⌜ r ≡ productTerm n z i o m ⌝ }
 {
     if m < o {
         return 0;
@@ -42,7 +42,7 @@ fn squares_at(n: usize, z: usize, i: usize, o: usize) -> i64
     let mut total = 0i64;
     let mut m = 0;
     while m <= z {
-        total = total + square_term(n, z, i, o, m);
+        total = total + product_term(n, z, i, o, m);
         m += 1;
     }
     total

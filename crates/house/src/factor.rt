@@ -1,7 +1,7 @@
 // The factor of the band, row after row, up to the first thin pivot.
 ghost use mathlib.Core.Path.{_≡_};
 ghost use Prim.Native.Nat.{_+_, _-_, _≤_, _<_};
-ghost use Rattle.house.specs.Factor.{lessBy, lowest, productOf, multipliersFrom, noMultipliers, stepOf, factorFrom};
+ghost use Rattle.house.specs.Factor.{lessBy, lowest, productOf, rowFrom, noMultipliers, factorStep, factorFrom};
 
 // The most cells a job has.
 pub const CELLS: usize = 120;
@@ -69,7 +69,7 @@ fn multipliers_of(
     lo: usize,
 ) -> [f64; 4]
     requires { ⌜ (lo ≤ j) × (j < 120) × (j ≤ lo + 4) ⌝ }
-    ensures { λ r. ⌜ r ≡ multipliersFrom entries (now (d .entry)) (now (l .entry)) j lo (j - lo) lo noMultipliers ⌝ }
+    ensures { λ r. ⌜ r ≡ rowFrom entries (now (d .entry)) (now (l .entry)) j lo (j - lo) lo noMultipliers ⌝ }
 {
     let mut made = [0.0; 4];
     let mut i = lo;
@@ -93,7 +93,7 @@ pub fn factor_step(
     z: usize,
 ) -> Step
     requires { ⌜ (j < 120) × (z ≤ 4) ⌝ }
-    ensures { λ r. ⌜ r ≡ stepOf entries (now (d .entry)) (now (l .entry)) z j ⌝ }
+    ensures { λ r. ⌜ r ≡ factorStep entries (now (d .entry)) (now (l .entry)) z j ⌝ }
 {
     let lo = lowest_of(j, z);
     let multipliers = multipliers_of(entries, d, l, j, lo);

@@ -1,5 +1,7 @@
+-- The laws behind the functions of this crate and its promises. Each file says what it is for.
 pub mod Steps
 pub mod Places
+pub mod Counts
 pub mod Taken
 pub mod Cells
 pub mod Terms

@@ -2,7 +2,6 @@
 use mathlib.Core.Path.{_≡_, refl, ap, _∙_}
 use mathlib.Core.List.{List}
 use lib.IntN.{ℤ}
-use lib.ListN.{length}
 use Rattle.fields.specs.declared.Field.the-variants.{Society}
 use Rattle.fields.specs.Table.{valuesFrom}
 use Rattle.packs.specs.declared.Outcome.{Outcome}

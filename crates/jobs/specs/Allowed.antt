@@ -58,6 +58,12 @@ pub record Allowed (j : Job) : Type 0 where
 abbrev pub Counted : List ℤ → ℕ → Type 0
 Counted ws i = wordAt ws i ≡ pos (countAt ws i)
 
+-- The same of a word that is there, and a small count.
+pub record Counts (ws : List ℤ) (at : ℕ) : Type 0 where
+  pub inside : at < length ws
+  pub natural : Counted ws at
+  pub small : countAt ws at ≤ 1000
+
 -- The words are those of a whole job pack: every word that counts or names is not negative, and the last link ends where they end.
 pub record Laid (ws : List ℤ) : Type 0 where
   pub society : Counted ws 0

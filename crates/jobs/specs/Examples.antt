@@ -2,7 +2,7 @@
 use Prim.Native.Nat.{ℕ}
 use mathlib.Core.Path.{_≡_}
 use mathlib.Core.List.{List, [], _∷_}
-use lib.IntN.{ℤ, pos, negsuc}
+use lib.IntN.{pos, negsuc}
 use lib.ListN.{getD}
 use Rattle.numbers.specs.declared.plain.Number.the-variants.{Value, Unreadable}
 use Rattle.numbers.specs.Plain.{numberAt, bytesOf}

@@ -1,6 +1,6 @@
 -- How long a line can be: two numbers take 42 bytes at most, an accepted table 1,017.
 use Prim.Native.Nat.{ℕ, suc, _+_, _*_, _≤_, _<_}
-use mathlib.Core.Path.{_≡_, refl, sym, ap, _∙_}
+use mathlib.Core.Path.{_≡_, refl, ap, _∙_}
 use mathlib.Core.List.{List, [], _∷_, _++_, map}
 use native.Mathlib.Omega.{arith}
 use lib.IntN.{ℤ, natAbs}
@@ -10,10 +10,8 @@ use Rattle.jobs.specs.Words.{wordAt}
 use Rattle.shelf.specs.Given.{Rates, firstValues}
 use Rattle.shelf.proofs.Values.{length-map, map-at}
 use Rattle.line.specs.Line.{decimal, field, later, printed}
-use Rattle.line.specs.Puts.{Room}
+use Rattle.line.specs.Puts.{headFields}
 use Rattle.line.proofs.Digits.{decimals-shortest, digits-most}
-use Rattle.line.proofs.Stores.{room-same}
-use Rattle.line.proofs.Parts.{pair-parts}
 
 printed-length : (first : ℕ) (rest : List ℕ) → length (printed first rest) ≡ length (decimal first) + (length (later rest) + 1)
 printed-length first rest = length-append (decimal first) (later rest ++ (10 ∷ [])) ∙ ap (λ (k : ℕ). length (decimal first) + k) (length-append (later rest) (10 ∷ []))
@@ -29,8 +27,11 @@ later-none = refl
 pub two-fit : (a b : ℕ) → length (printed a (b ∷ [])) ≤ 1024
 two-fit a b = omega (arith, printed-length a (b ∷ []), later-length b [], later-none, digits-most a, digits-most b)
 
-pub pair-room : (a b : ℕ) (out : List ℕ) → 1024 ≤ length out → Room (decimal a ++ (field b ++ (10 ∷ []))) 0 out
-pair-room a b out h = room-same (sym (pair-parts a b)) (record { fits = omega (arith, two-fit a b) })
+-- the fields of a table's line before its values
+pub head-length : (society job loss gap : ℕ)
+    → length (headFields society job loss gap)
+    ≡ length (decimal 0) + (length (field society) + (length (field job) + (length (field loss) + length (field gap))))
+head-length society job loss gap = simp length-append
 
 -- ---- the values of a table
 -- at most 120, each at most 1,000,000

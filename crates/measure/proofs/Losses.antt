@@ -19,10 +19,11 @@ use Rattle.whole.proofs.Magnitude.{bound-+, bound-*}
 use Rattle.whole.proofs.Fits.{Adds, partial-small, small-fits, gives}
 use Rattle.certificate.specs.Problem.{squared}
 use Rattle.jobs.specs.Words.{wordAt, cellsOf, jobOf}
+use Rattle.jobs.proofs.Places.{cells-inside}
 use Rattle.measure.specs.Loss.{lossOf}
 use Rattle.measure.specs.Given.{Given, Differs, Difference, Differences, LossParts, Measured}
 use Rattle.measure.specs.Running.{differenceOf, Filled}
-use Rattle.measure.proofs.Places.{read, rate-read, weight-read, cells-inside}
+use Rattle.measure.proofs.Places.{read, rate-read, weight-read}
 use Rattle.measure.proofs.Table.{difference-small, difference-less, difference-is}
 use Rattle.measure.proofs.Terms.{apart-small}
 use Rattle.measure.specs.OnWords.{differenceOn, fitTermOn, fitOn, lossOn}
@@ -60,7 +61,7 @@ module _ {ws ps : List ℤ} (G : Given ws ps) (i : ℕ) (h : i < cellsOf ws) whe
   fit-fits = small-fits (fitTermOn ws ps i) fit-small (lit< tt)
 
   pub fit-inside : 7 + 4 * i < length ws
-  fit-inside = omega (arith, cells-inside (G .allowed) (G .laid))
+  fit-inside = omega (arith, cells-inside (G .laid))
 
 pub fit-adds : {ws ps : List ℤ} {n : ℕ} → Given ws ps → n ≡ cellsOf ws → Adds (fitTermOn ws ps) n 1000000000000000
 fit-adds {ws} {ps} {n} G e = record {

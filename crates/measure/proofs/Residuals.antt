@@ -23,12 +23,13 @@ use Rattle.certificate.proofs.Terms.{cell-terms-not-negative}
 use Rattle.jobs.specs.Job.{Job}
 use Rattle.jobs.specs.Words.{wordAt, cellsOf, linksOf, jobOf}
 use Rattle.jobs.specs.Allowed.{Upto}
+use Rattle.jobs.proofs.Places.{cells-inside}
 use Rattle.rows.specs.Rows.{rowOf}
 use Rattle.measure.specs.Loss.{familyOf}
 use Rattle.measure.specs.Gap.{limit, residualOf}
 use Rattle.measure.specs.Given.{Differences, Slopes, ResidualAt, CellAt, CellNumbers, Settles, Totalling}
 use Rattle.measure.specs.Running.{gatheredOf, settledOf, runOf}
-use Rattle.measure.proofs.Places.{read, rate-read, weight-read, cells-inside}
+use Rattle.measure.proofs.Places.{read, rate-read, weight-read}
 use Rattle.rows.proofs.Rule.{row-small, row-size, row-fits}
 use Rattle.measure.proofs.Losses.{measured-differences}
 use Rattle.measure.proofs.Terms.{cell-small, true-T}
@@ -182,7 +183,7 @@ module _ {ws ps : List ℤ} {n z : ℕ} {d : List ℤ} {i : ℕ} {part : ℤ} (R
   residual-differences = (measured-differences (R .measured), omega (arith, R .measured .z-is, R .measured .given .allowed .order-few))
 
   pub residual-words : 7 + 4 * i < length ws
-  residual-words = omega (arith, inside, cells-inside (R .measured .given .allowed) (R .measured .given .laid))
+  residual-words = omega (arith, inside, cells-inside (R .measured .given .laid))
 
   -- with the constant and the gathered differences that the code has
   module _ {k s : ℤ} (ek : k ≡ jobOf ws .constant) (es : s ≡ gatheredOf z (n - z) (wordAt d) i) where
@@ -215,7 +216,7 @@ module _ {ws ps : List ℤ} {n z : ℕ} {d : List ℤ} {i : ℕ} {part : ℤ} (R
 
 module _ {ws ps : List ℤ} {i : ℕ} {r : ℤ} (C : CellAt ws ps i r) where
   pub cell-words : 9 + 4 * i < length ws
-  cell-words = omega (arith, C .inside, cells-inside (C .given .allowed) (C .given .laid))
+  cell-words = omega (arith, C .inside, cells-inside (C .given .laid))
 
   pub cell-value : i < length ps
   cell-value = omega (arith, C .inside, C .given .proposed .count)

@@ -19,8 +19,8 @@ use Rattle.whole.proofs.Rows.{only-same, only-other, coefficient-times}
 use Rattle.whole.proofs.Magnitude.{bound-+, bound-*}
 use Rattle.whole.proofs.Fits.{small-fits, gives}
 use Rattle.jobs.specs.Words.{wordAt, countAt, cellsOf}
-use Rattle.jobs.specs.Allowed.{Upto}
-use Rattle.measure.specs.Given.{Counts, LinkAt, Adding, Scattering}
+use Rattle.jobs.specs.Allowed.{Upto, Counts}
+use Rattle.measure.specs.Given.{LinkAt, Adding, Scattering}
 use Rattle.measure.specs.Running.{Added, partAt}
 use Rattle.measure.proofs.Places.{read, multiplier-read}
 

@@ -1,19 +1,18 @@
 -- The bounds of differences, by the rule of the rows. A row that comes to 0 does not see a shift, so rates are taken from their middle, 500,000.
-use Prim.Native.Nat.{ℕ, zero, suc, _+_, _-_, _*_, _≤_, _<_}
+use Prim.Native.Nat.{ℕ, suc, _+_, _-_, _*_, _≤_, _<_}
 use mathlib.Core.Path.{_≡_, sym, ap, ap₂, subst, _∙_}
 use mathlib.Core.Bool.{Bool, true, false, cond}
 use mathlib.Core.List.{List}
 use native.Mathlib.Nat as N
 use native.Mathlib.Omega.{arith}
-use lib.Dec.{T, lit<, leb, leb→le, ltb, ltb→lt, eqb, eqb→eq}
+use lib.Dec.{T, lit<, ltb, ltb→lt}
 use lib.IntN.{ℤ, pos, negsuc, natAbs, _+ℤ_, _-ℤ_, _*ℤ_}
 use mir.Syntax.{w64}
 use mir.Val.{SFits}
-use Rattle.whole.specs.Sum.{sum, sumℕ}
+use Rattle.whole.specs.Sum.{sumℕ}
 use Rattle.whole.proofs.Sums.{sum-ext}
 use Rattle.whole.proofs.Magnitude.{bound-*}
 use Rattle.whole.proofs.Fits.{small-fits, gives, Adds}
-use Rattle.whole.proofs.Tested.{below, below-at}
 use Rattle.certificate.specs.Differences.{Family, difference}
 use Rattle.certificate.proofs.Differences.{shift-unseen, difference-size}
 use Rattle.jobs.specs.Job.{Job}

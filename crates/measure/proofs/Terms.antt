@@ -17,10 +17,11 @@ use Rattle.whole.proofs.Fits.{small-fits, gives}
 use Rattle.numbers.proofs.Clash.{clash}
 use Rattle.certificate.specs.Terms.{boxTerm, squareTerm, smaller, squareCounts, cellTerm}
 use Rattle.jobs.specs.Allowed.{Upto}
+use Rattle.jobs.proofs.Places.{upto-le}
 use Rattle.measure.specs.Gap.{limit}
 use Rattle.measure.specs.Given.{Boxed, Squares, CellNumbers, LinkNumbers, Settles}
 use Rattle.measure.specs.Running.{settledOf}
-use Rattle.measure.proofs.Places.{read, rate-read, weight-read, multiplier-read, tolerance-fits, upto-le}
+use Rattle.measure.proofs.Places.{read, rate-read, weight-read, multiplier-read, tolerance-fits}
 
 -- ---- the box term
 

@@ -17,6 +17,7 @@ use Rattle.numbers.proofs.Clash.{clash}
 use Rattle.whole.specs.Sum.{sum}
 use Rattle.whole.proofs.Fits.{small-fits, gives}
 use Rattle.jobs.specs.Words.{wordAt, cellsOf, linksOf, jobOf}
+use Rattle.jobs.proofs.Places.{cells-inside}
 use Rattle.measure.specs.declared.check.Verdict.{Verdict}
 use Rattle.measure.specs.declared.check.Verdict.the-variants.{Accepted, Refused}
 use Rattle.measure.specs.declared.links.Walked.{Walked}
@@ -25,7 +26,7 @@ use Rattle.measure.specs.Gap.{gapOf}
 use Rattle.measure.specs.Check.{lowestFailing, verdictOf}
 use Rattle.measure.specs.Given.{Given, Differs, Measured, Totalling, Boxes, Weighing, Judging}
 use Rattle.measure.specs.Running.{differenceOf, Filled, Added, runOf, walkOf}
-use Rattle.measure.proofs.Places.{read, rate-read, tolerance-fits, cells-inside}
+use Rattle.measure.proofs.Places.{read, rate-read, tolerance-fits}
 use Rattle.measure.proofs.Table.{difference-is}
 use Rattle.measure.proofs.Losses.{differs, loss-in-64}
 use Rattle.measure.proofs.Terms.{true-T}
@@ -39,7 +40,7 @@ use Rattle.measure.specs.OnWords.{inBoxOn, holdsOn, lossOn, cellTermOn, 
 
 module _ {ws ps : List ℤ} (G : Given ws ps) (i : ℕ) (h : i < cellsOf ws) where
   pub box-words : 9 + 4 * i < length ws
-  box-words = omega (arith, cells-inside (G .allowed) (G .laid))
+  box-words = omega (arith, cells-inside (G .laid))
 
   floor-is : leZ (read (jobOf ws .floor i)) (read (wordAt ps i)) ≡ leZ (jobOf ws .floor i) (wordAt ps i)
   floor-is = ap₂ leZ (rate-read (G .allowed .cell i h .floor)) (rate-read (G .proposed .value i h))
@@ -77,7 +78,7 @@ module _ {ws ps : List ℤ} (G : Given ws ps) {n cell : ℕ} (en : n ≡ cellsOf
     boxes = passed-all (inBoxOn ws ps) n (subst (λ (x : ℕ). n ≤ x) (ek ∙ ap (lowestFailing (inBoxOn ws ps)) (sym en)) h);
   }
 
-zeros-at : (n i : ℕ) → wordAt (replicate n (pos 0)) i ≡ pos 0
+pub zeros-at : (n i : ℕ) → wordAt (replicate n (pos 0)) i ≡ pos 0
 zeros-at zero i = refl
 zeros-at (suc n) zero = refl
 zeros-at (suc n) (suc i) = zeros-at n i

@@ -19,11 +19,12 @@ use Rattle.whole.proofs.Magnitude.{bound-+, bound-*}
 use Rattle.whole.proofs.Fits.{Holds, Adds, partial-small, small-fits, gives}
 use Rattle.jobs.specs.Words.{wordAt, countAt, linksOf, startOf, jobOf}
 use Rattle.jobs.specs.Allowed.{Upto}
+use Rattle.jobs.proofs.Places.{upto-nonneg, start-zero, start-suc, cells-inside}
 use Rattle.measure.specs.declared.links.Walked.the-variants.{Broken, Held}
 use Rattle.measure.specs.Gap.{linkSum, linkCoefficient}
 use Rattle.measure.specs.Given.{Given, LinkAt, Linked, LinkNumbers, Scattering, Settles, Walking}
 use Rattle.measure.specs.Running.{sumAt, boundAt, partAt, Added, settledOf, runOf, walkOf}
-use Rattle.measure.proofs.Places.{read, rate-read, multiplier-read, upto-nonneg, start-zero, start-suc, cells-inside, link-at}
+use Rattle.measure.proofs.Places.{read, rate-read, multiplier-read, link-at}
 use Rattle.measure.proofs.Terms.{link-small, true-T}
 use Rattle.measure.proofs.Totals.{Runs, run-begins, settles-call, settles-next, not-lt-le, lt-not-le}
 use Rattle.measure.proofs.Lowest.{Passed, passed-start, passed-next, lowest-all, lowest-at}
@@ -114,7 +115,7 @@ pub record Along (ws ps parts₀ : List ℤ) (l s total : ℕ) (parts : List ℤ
 
 module _ {ws ps : List ℤ} {n : ℕ} {parts₀ : List ℤ} (W : Walking ws ps n parts₀) where
   pub walk-room : 7 + 4 * n ≤ length ws
-  walk-room = omega (arith, W .n-is, cells-inside (W .given .allowed) (W .given .laid))
+  walk-room = omega (arith, W .n-is, cells-inside (W .given .laid))
 
   pub walk-start : {total : ℕ} → toZ w64 total ≡ pos 0 → Along ws ps parts₀ 0 (7 + 4 * n) total parts₀
   walk-start e = record {

@@ -18,12 +18,6 @@ pub record Given (ws ps : List ℤ) : Type 0 where
   pub laid : Laid ws
   pub proposed : Proposed (cellsOf ws) (linksOf ws) ps
 
--- A word that counts or names, and is small.
-pub record Counts (ws : List ℤ) (at : ℕ) : Type 0 where
-  pub inside : at < length ws
-  pub natural : wordAt ws at ≡ pos (countAt ws at)
-  pub small : countAt ws at ≤ 1000
-
 -- The rates that the difference of order z at the cell i uses.
 pub record Differs (z i : ℕ) (v : List ℤ) : Type 0 where
   pub some : 1 ≤ z

@@ -1,7 +1,7 @@
 // The gap (document 01, "Loss and gap"): one walk over the cells, on the total of the link terms.
 use crate::residual;
 use crate::term;
-use crate::words;
+use jobs::words;
 ghost use mathlib.Core.Path.{_≡_};
 ghost use Rattle.jobs.specs.Words.{cellsOf, jobOf};
 ghost use Rattle.measure.specs.Given.{CellAt, Totalling};

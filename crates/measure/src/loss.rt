@@ -1,5 +1,4 @@
 // Differences and loss (document 01, "Loss and gap"). A table is given by its values, the first words of a proposal.
-use crate::words;
 ghost use mathlib.Core.Path.{_≡_};
 ghost use Prim.Native.Nat.{ℕ, _+_, _-_, _≤_, _<_};
 ghost use lib.IntN.{_+ℤ_, _*ℤ_};
@@ -11,6 +10,7 @@ ghost use Rattle.rows.specs.Rows.{rowOf};
 ghost use Rattle.measure.specs.Given.{Given, Differs, Difference, Differences, LossParts, Measured};
 ghost use Rattle.measure.specs.Running.{differenceOf, Filled};
 ghost use Rattle.measure.specs.OnWords.{fitTermOn, fitOn, lossOn};
+use jobs::words;
 
 // s(m) times v(i + m).
 fn difference_term(values: &[i64], z: usize, i: usize, m: usize) -> i64

@@ -1,5 +1,4 @@
 // The residual of a cell (document 01, "Loss and gap"), from the differences that use the cell and the link part.
-use crate::words;
 ghost use mathlib.Core.Path.{_≡_};
 ghost use Prim.Native.Nat.{_-_, _≤_};
 ghost use lib.IntN.{pos, _+ℤ_, _-ℤ_, _*ℤ_};
@@ -9,6 +8,7 @@ ghost use Rattle.rows.specs.Rows.{rowOf};
 ghost use Rattle.measure.specs.Given.{Differences, Slopes, ResidualAt};
 ghost use Rattle.measure.specs.Running.{gatheredOf};
 ghost use Rattle.measure.specs.OnWords.{residualWith};
+use jobs::words;
 
 // The difference at i - m, 0 where there is none.
 fn earlier_of(d: &[i64], count: usize, i: usize, m: usize) -> i64

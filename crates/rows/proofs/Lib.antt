@@ -1,1 +1,2 @@
+-- The rule of the rows.
 pub mod Rule

@@ -14,6 +14,7 @@ use Rattle.shelf.specs.declared.Slot.{Slot}
 use Rattle.shelf.specs.declared.Slot.the-variants.{At, Nowhere}
 use Rattle.shelf.specs.declared.Answer.{Answer}
 use Rattle.shelf.proofs.Search.{first-word}
+use Rattle.shelf.proofs.Sizes.{at-inj, no-slot}
 
 module _ (w c job : ℕ) (s : List ℕ) where
   -- ---- a keep
@@ -76,15 +77,9 @@ has-count : (job : ℕ) (x : List ℕ) → hasJob job x ≡ true → getD x 0 0 
 unfolding hasJob isFull
 has-count job x e = leb-true (getD x 0 0) 120 (and-right (leb 2 (getD x 0 0)) (leb (getD x 0 0) 120) (and-left (leb 2 (getD x 0 0) && leb (getD x 0 0) 120) (eqb (getD x 1 0) job) e))
 
-at-inj : (p q : ℕ) → At p ≡ At q → p ≡ q
-at-inj p q e = cc
-
-no-slot : {A : Type 0} (p : ℕ) → Nowhere ≡ At p → A
-no-slot p e = let z : _≡_ {A = ℕ} 0 1 = cc in absurd (omega arith)
-
 found-test : (test : List ℕ → Bool) (w c : ℕ) (s : List ℕ) (p : ℕ) → lowest test w c s ≡ At p → test (drop (w * p) s) ≡ true
 unfolding lowest
-found-test test w zero s p e = no-slot p e
+found-test test w zero s p e = absurd (no-slot p e)
 found-test test w (suc c) s p e = go (test s) refl (lowest test w c (drop w s)) refl e (λ q f. found-test test w c (drop w s) q f)
   where
     here : (n : ℕ) → n ≡ 0 → w * n ≡ 0
@@ -95,7 +90,7 @@ found-test test w (suc c) s p e = go (test s) refl (lowest test w c (drop w s)) 
     go false t (At q) f g k =
         let e : w + w * q ≡ w * suc q = add-comm w (w * q) ∙ sym (mul-suc w q) in
         ap (λ (n : ℕ). test (drop n s)) (ap (λ (n : ℕ). w * n) (sym (at-inj (suc q) p g)) ∙ sym e) ∙ ap test (sym (drop-drop (w * q) w s)) ∙ k q f
-    go false t Nowhere f g k = no-slot p g
+    go false t Nowhere f g k = absurd (no-slot p g)
 
 pub found-count : (job w c : ℕ) (s : List ℕ) (p : ℕ) → lowest (hasJob job) w c s ≡ At p → getD s (w * p) 0 ≤ 120
 found-count job w c s p e = subst (λ (n : ℕ). n ≤ 120) (first-word s (w * p)) (has-count job (drop (w * p) s) (found-test (hasJob job) w c s p e))

@@ -11,10 +11,10 @@ use Rattle.shelf.specs.Slots.{putSlot, droppedSlot, pushed, lowest, pick
 use Rattle.shelf.specs.declared.Slot.{Slot}
 use Rattle.shelf.specs.declared.Slot.the-variants.{At, Nowhere}
 
-at-inj : (p q : ℕ) → At p ≡ At q → p ≡ q
+pub at-inj : (p q : ℕ) → At p ≡ At q → p ≡ q
 at-inj p q e = cc
 
-no-slot : (p : ℕ) → Nowhere ≡ At p → ⊥
+pub no-slot : (p : ℕ) → Nowhere ≡ At p → ⊥
 no-slot p e = let z : _≡_ {A = ℕ} 0 1 = cc in omega arith
 
 below : (c q : ℕ) (b : Bool) (o : Slot) → ((r : ℕ) → o ≡ At r → r < c) → pick b (At 0) (later o) ≡ At q → q < suc c

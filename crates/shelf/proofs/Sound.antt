@@ -1,6 +1,6 @@
 -- What an accepted check names: a society up to 7, and 2 to 120 values. It accepts only packs that read, and what reads is allowed.
 use mathlib.Core.Path.{_≡_, refl, sym}
-use mathlib.Core.Bool.{true, false, true≢false}
+use mathlib.Core.Bool.{true, true≢false}
 use mathlib.Core.Option.{some}
 use mathlib.Core.List.{List, [], _∷_, map}
 use Prim.Native.Nat.{ℕ, _≤_}

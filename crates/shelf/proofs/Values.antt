@@ -11,6 +11,7 @@ use mir.Syntax.{w64}
 use mir.Val.{toZ, ofZ}
 use Rattle.whole.proofs.Fits.{small-fits, gives}
 use Rattle.jobs.specs.Words.{wordAt}
+use Rattle.measure.proofs.Verdicts.{zeros-at}
 use Rattle.shelf.specs.Given.{firstValues}
 
 -- ---- sizes
@@ -36,11 +37,6 @@ pub word-read : (z : ℤ) → natAbs z ≤ 4294967295 → natAbs (toZ w64 (ofZ w
 word-read z h = ap (λ (y : ℤ). natAbs y) (gives refl (small-fits z h (lit< tt)))
 
 -- ---- zeros
-zero-at : (n i : ℕ) → wordAt (replicate n (pos 0)) i ≡ pos 0
-zero-at zero i = refl
-zero-at (suc n) zero = refl
-zero-at (suc n) (suc i) = zero-at n i
-
 past-end : (xs zs : List ℤ) → ((i : ℕ) → wordAt zs i ≡ pos 0) → (i : ℕ) → wordAt (xs ++ zs) i ≡ wordAt xs i
 past-end [] zs h i = h i
 past-end (x ∷ xs) zs h zero = refl
@@ -63,7 +59,7 @@ module _ (m : ℕ) (ws : List ℤ) (room : length ws ≤ m) (scratch : List ℤ)
   pub same-word : (i : ℕ) → wordAt scratch i ≡ wordAt ws i
   same-word i =
       ap (λ (l : List ℤ). wordAt l i) in-front
-      ∙ past-end ws (drop (0 + length ws) (replicate m (pos 0))) (λ k. getD-drop (0 + length ws) (replicate m (pos 0)) k (pos 0) ∙ zero-at m (0 + length ws + k)) i
+      ∙ past-end ws (drop (0 + length ws) (replicate m (pos 0))) (λ k. getD-drop (0 + length ws) (replicate m (pos 0)) k (pos 0) ∙ zeros-at m (0 + length ws + k)) i
 
   pub same-values : (n : ℕ) → n ≤ length ws → firstValues n scratch ≡ firstValues n ws
   same-values n h = ap (firstValues n) in-front ∙ first-append n ws (drop (0 + length ws) (replicate m (pos 0))) h

@@ -38,9 +38,9 @@ abbrev pub said : Layout → (shelf : List ℕ) → Call → Reply
 said l shelf call = fromWhole l (λ s. wholeSaid l s call) shelf
 
 -- what each call of a sequence says
-abbrev pub runOf : Layout → (shelf : List ℕ) → List Call → List Reply
-runOf l shelf [] = []
-runOf l shelf (call ∷ calls) = said l shelf call ∷ runOf l (after l shelf call) calls
+abbrev pub shelfRun : Layout → (shelf : List ℕ) → List Call → List Reply
+shelfRun l shelf [] = []
+shelfRun l shelf (call ∷ calls) = said l shelf call ∷ shelfRun l (after l shelf call) calls
 
 -- ---- "A call's own society is the one that its pack or its number names"
 -- A pack names the society that it starts with, where that is read; clearing "belongs to no society".

@@ -1,5 +1,7 @@
--- Four stores make the four words, and number and place are small enough for one number.
-use mathlib.Core.Path.{refl}
+-- Four stores make the four words; a shift by five and a sum are the number returned, both taken as far as 64 bits go.
+use Prim.Native.Nat.{ℕ, _+_, _*_, _^_, _%_}
+use mathlib.Core.Path.{_≡_, _∙_}
+use native.Mathlib.Omega.{arith}
 use borrow.Author.Needs.{needs}
 use Rattle.bench.proofs.Four.{four}
 use Rattle.bench.proofs.answers.give.Statement.{statement}
@@ -17,20 +19,20 @@ slice-write-answer-3 c = search needs
 slice-write-answer-4 : tie.Need-slice-write-answer-4
 slice-write-answer-4 c = search needs
 
-mul-far : tie.Need-mul-far
-mul-far c = search needs
-
-add-result : tie.Need-add-result
-add-result c = search needs
+wrapping-add-u64-requires : tie.Need-wrapping-add-u64-requires
+wrapping-add-u64-requires c κs = search needs
 
 same-length : tie.Need-same-length
 same-length c = search needs
 
+code-wraps : (place number : ℕ) → ((place * 2 ^ 5) % 2 ^ 64 + number) % 2 ^ 64 ≡ (32 * place + number) % 2 ^ 64
+code-wraps place number = omega arith
+
 returns : tie.Need-returns
 returns c =
-    let at = c .before .before in
+    let at = c .before .before .before in
     let a = at .args .a in
-    (refl, four (at .args .answer .now) (a .number) (a .place) (a .loss) (a .gap) (at .pre .0))
+    (c .wrapping-add-u64 .ensures ∙ code-wraps (a .place) (a .number), four (at .args .answer .now) (a .number) (a .place) (a .loss) (a .gap) (at .pre))
 
 pub give-spec : {M : Type 1} → statement M
 give-spec =
@@ -40,7 +42,6 @@ give-spec =
     slice-write-answer-2
     slice-write-answer-3
     slice-write-answer-4
-    mul-far
-    add-result
+    wrapping-add-u64-requires
     same-length
     returns)

@@ -4,7 +4,6 @@ use Rattle.shelf.specs.Slots.{overwritten}
 use Rattle.shelf.specs.Shelf.{base}
 use Rattle.shelf.specs.Calls.{fetch, said}
 use Rattle.bench.proofs.Endings.{without-room, with-room}
-use Rattle.bench.proofs.Small.{code-fits}
 use Rattle.bench.proofs.Shelves.{said-small}
 use borrow.Author.Needs.{needs}
 use Rattle.bench.proofs.keeping.bench_fetch.Statement.{statement}
@@ -20,11 +19,7 @@ fetch-requires : tie.Need-fetch-requires
 fetch-requires c κs = search needs
 
 give-requires : tie.Need-give-requires
-give-requires c κs =
-    let made = c .before .before .before in
-    let test = made .before .before in
-    let a = test .before .before .before .before .args in
-    (test .if1 .left, code-fits _ (made .fetch .ensures .0) (said-small (a .shelf .now) (fetch (a .society) (a .job) (length (a .out .now)))))
+give-requires c κs = search needs
 
 same-length : tie.Need-same-length
 same-length c = search needs
@@ -39,7 +34,7 @@ returns-2 c =
     let test = made .before .before in
     let a = test .before .before .before .before .args in
     let call = fetch (a .society) (a .job) (length (a .out .now)) in
-    with-room (said base (a .shelf .now) call .answer) (a .answer .now) (a .out .now) (overwritten (a .out .now) (said base (a .shelf .now) call .values)) (test .if1 .left) (made .fetch .result)
+    with-room (said base (a .shelf .now) call .answer) (a .answer .now) (a .out .now) (overwritten (a .out .now) (said base (a .shelf .now) call .values)) (said-small (a .shelf .now) call) (test .if1 .left) (made .fetch .result)
     (made .fetch .ensures .0) (given .give .ensures .0) (given .give .ensures .1) (made .fetch .ensures .1)
 
 pub bench-fetch-spec : {M : Type 1} → statement M

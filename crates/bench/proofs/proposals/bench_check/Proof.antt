@@ -5,7 +5,7 @@ use mathlib.Core.List.{[]}
 use Rattle.measure.specs.Check.{checkOf}
 use Rattle.shelf.specs.Checked.{answerOf}
 use Rattle.bench.proofs.Endings.{without-room, with-room}
-use Rattle.bench.proofs.Small.{code-fits, check-small}
+use Rattle.bench.proofs.Small.{check-small}
 use borrow.Author.Needs.{needs}
 use Rattle.bench.proofs.proposals.bench_check.Statement.{statement}
 use Rattle.bench.proofs.proposals.bench_check.Tie as tie
@@ -22,11 +22,7 @@ of-verdict-requires : tie.Need-of-verdict-requires
 of-verdict-requires c κs = search needs
 
 give-requires : tie.Need-give-requires
-give-requires c κs =
-    let told = c .before .before in
-    let test = told .before in
-    let a = test .before .before .before .before .args in
-    (test .if1 .left, code-fits _ (c .of-verdict .ensures ∙ ap answerOf (told .check .ensures)) (check-small (a .job .now) (a .proposal .now)))
+give-requires c κs = search needs
 
 same-length : tie.Need-same-length
 same-length c = search needs
@@ -37,7 +33,7 @@ returns-2 c =
     let told = given .before .before .before in
     let test = told .before in
     let a = test .before .before .before .before .args in
-    with-room {A = ℕ} (answerOf (checkOf (a .job .now) (a .proposal .now))) (a .answer .now) [] [] (test .if1 .left) (given .before .of-verdict .result)
+    with-room {A = ℕ} (answerOf (checkOf (a .job .now) (a .proposal .now))) (a .answer .now) [] [] (check-small (a .job .now) (a .proposal .now)) (test .if1 .left) (given .before .of-verdict .result)
     (given .before .of-verdict .ensures ∙ ap answerOf (told .check .ensures)) (given .give .ensures .0) (given .give .ensures .1) refl
 
 pub bench-check-spec : {M : Type 1} → statement M

@@ -5,7 +5,6 @@ use lib.Seq.{sets}
 use Rattle.house.specs.Proposal.{proposeOf}
 use Rattle.bench.specs.Calls.{outcomeOf}
 use Rattle.bench.proofs.Endings.{without-room, with-room}
-use Rattle.bench.proofs.Small.{code-fits}
 use Rattle.bench.proofs.Outcomes.{propose-small}
 use borrow.Author.Needs.{needs}
 use Rattle.bench.proofs.proposals.bench_propose.Statement.{statement}
@@ -24,11 +23,7 @@ of-outcome-requires : tie.Need-of-outcome-requires
 of-outcome-requires c κs = search needs
 
 give-requires : tie.Need-give-requires
-give-requires c κs =
-    let told = c .before .before .before .before in
-    let test = told .before .before in
-    let a = test .before .before .before .before .args in
-    (test .if1 .left, code-fits _ (c .of-outcome .ensures ∙ ap outcomeOf (told .propose .ensures .0)) (propose-small (length (a .out .now)) (a .job .now)))
+give-requires c κs = search needs
 
 same-length : tie.Need-same-length
 same-length c = search needs
@@ -43,7 +38,7 @@ returns-2 c =
     let test = told .before .before in
     let a = test .before .before .before .before .args in
     let made = proposeOf (length (a .out .now)) (a .job .now) in
-    with-room (outcomeOf (made .outcome)) (a .answer .now) (a .out .now) (sets (a .out .now) 0 (made .bytes)) (test .if1 .left) (given .before .of-outcome .result)
+    with-room (outcomeOf (made .outcome)) (a .answer .now) (a .out .now) (sets (a .out .now) 0 (made .bytes)) (propose-small (length (a .out .now)) (a .job .now)) (test .if1 .left) (given .before .of-outcome .result)
     (given .before .of-outcome .ensures ∙ ap outcomeOf (told .propose .ensures .0)) (given .give .ensures .0) (given .give .ensures .1) (told .propose .ensures .1)
 
 pub bench-propose-spec : {M : Type 1} → statement M

@@ -5,7 +5,6 @@ use lib.Seq.{sets}
 use Rattle.jobs.specs.Packs.{readJobInto}
 use Rattle.bench.specs.Calls.{outcomeOf}
 use Rattle.bench.proofs.Endings.{without-room, with-room}
-use Rattle.bench.proofs.Small.{code-fits}
 use Rattle.bench.proofs.Outcomes.{read-small}
 use borrow.Author.Needs.{needs}
 use Rattle.bench.proofs.words.bench_read.Statement.{statement}
@@ -24,11 +23,7 @@ of-outcome-requires : tie.Need-of-outcome-requires
 of-outcome-requires c κs = search needs
 
 give-requires : tie.Need-give-requires
-give-requires c κs =
-    let told = c .before .before .before in
-    let test = told .before .before in
-    let a = test .before .before .before .args in
-    (test .if1 .left, code-fits _ (c .of-outcome .ensures ∙ ap outcomeOf (told .read-job .ensures .0)) (read-small (length (a .words .now)) (a .job .now)))
+give-requires c κs = search needs
 
 same-length : tie.Need-same-length
 same-length c = search needs
@@ -43,7 +38,7 @@ returns-2 c =
     let test = told .before .before in
     let a = test .before .before .before .args in
     let made = readJobInto (length (a .words .now)) (a .job .now) in
-    with-room (outcomeOf (made .outcome)) (a .answer .now) (a .words .now) (sets (a .words .now) 0 (made .words)) (test .if1 .left) (given .before .of-outcome .result)
+    with-room (outcomeOf (made .outcome)) (a .answer .now) (a .words .now) (sets (a .words .now) 0 (made .words)) (read-small (length (a .words .now)) (a .job .now)) (test .if1 .left) (given .before .of-outcome .result)
     (given .before .of-outcome .ensures ∙ ap outcomeOf (told .read-job .ensures .0)) (given .give .ensures .0) (given .give .ensures .1) (told .read-job .ensures .1)
 
 pub bench-read-spec : {M : Type 1} → statement M

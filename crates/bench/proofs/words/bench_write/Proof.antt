@@ -6,7 +6,6 @@ use Rattle.packs.specs.Writing.{roomed}
 use Rattle.jobs.specs.Packs.{writeJob}
 use Rattle.bench.specs.Calls.{outcomeOf}
 use Rattle.bench.proofs.Endings.{without-room, with-room}
-use Rattle.bench.proofs.Small.{code-fits}
 use Rattle.bench.proofs.Outcomes.{write-small}
 use borrow.Author.Needs.{needs}
 use Rattle.bench.proofs.words.bench_write.Statement.{statement}
@@ -25,11 +24,7 @@ of-outcome-requires : tie.Need-of-outcome-requires
 of-outcome-requires c κs = search needs
 
 give-requires : tie.Need-give-requires
-give-requires c κs =
-    let told = c .before .before .before .before in
-    let test = told .before .before in
-    let a = test .before .before .before .args in
-    (test .if1 .left, code-fits _ (c .of-outcome .ensures ∙ ap outcomeOf (told .write-job .ensures .0)) (write-small (length (a .out .now)) (a .words .now)))
+give-requires c κs = search needs
 
 same-length : tie.Need-same-length
 same-length c = search needs
@@ -44,7 +39,7 @@ returns-2 c =
     let test = told .before .before in
     let a = test .before .before .before .args in
     let made = roomed (length (a .out .now)) (writeJob (a .words .now)) in
-    with-room (outcomeOf (made .outcome)) (a .answer .now) (a .out .now) (sets (a .out .now) 0 (made .bytes)) (test .if1 .left) (given .before .of-outcome .result)
+    with-room (outcomeOf (made .outcome)) (a .answer .now) (a .out .now) (sets (a .out .now) 0 (made .bytes)) (write-small (length (a .out .now)) (a .words .now)) (test .if1 .left) (given .before .of-outcome .result)
     (given .before .of-outcome .ensures ∙ ap outcomeOf (told .write-job .ensures .0)) (given .give .ensures .0) (given .give .ensures .1) (told .write-job .ensures .1)
 
 pub bench-write-spec : {M : Type 1} → statement M

@@ -4,14 +4,14 @@ use Prim.Native.Nat.{_+_, _-_, _≤_}
 use native.Mathlib.Omega.{arith}
 use lib.Ieee.{Float, binary64, div, ofBits}
 use lib.ListN.{set}
-use Rattle.house.specs.Factor.{pivotAt, multiplierOf, multipliersFrom}
+use Rattle.house.specs.Factor.{pivotAt, multiplierOf, rowFrom}
 use Rattle.house.proofs.Turns.{multipliers-more, multipliers-done}
 use borrow.Author.Needs.{needs}
 use Rattle.house.proofs.factor.multipliers_of.Statement.{statement}
 use Rattle.house.proofs.factor.multipliers_of.Tie as tie
 
 abbrev Inv-loop : tie.InvT-loop
-Inv-loop d l j lo entries made₀ i₀ made i = (lo ≤ i) × (i ≤ j) × (multipliersFrom entries d l j lo (j - i) i made ≡ multipliersFrom entries d l j lo (j - lo) lo made₀)
+Inv-loop d l j lo entries made₀ i₀ made i = (lo ≤ i) × (i ≤ j) × (rowFrom entries d l j lo (j - i) i made ≡ rowFrom entries d l j lo (j - lo) lo made₀)
 
 abbrev μ-loop : tie.MeasureT-loop
 μ-loop d l j lo entries made₀ i₀ made i = j - i
@@ -67,7 +67,7 @@ loop-again c =
     let made = head .loop .made in (
       omega arith,
       omega arith,
-      ap (λ (x : Float). multipliersFrom (a .t1) (a .d .now) (a .l .now) (a .j) (a .lo) (a .j - (i + 1)) (i + 1) (set made (a .j - i - 1) (div binary64 x (pivotAt (a .d .now) i)))) (c .before .less-products .ensures)
+      ap (λ (x : Float). rowFrom (a .t1) (a .d .now) (a .l .now) (a .j) (a .lo) (a .j - (i + 1)) (i + 1) (set made (a .j - i - 1) (div binary64 x (pivotAt (a .d .now) i)))) (c .before .less-products .ensures)
           ∙ sym (multipliers-more (a .t1) (a .d .now) (a .l .now) (a .j) (a .lo) i made (omega arith)) ∙ head .loop .inv .2,
     )
 

@@ -13,8 +13,6 @@ use mathlib.Core.List.{List}
 use mathlib.Core.Path.{_≡_, refl, ap, _∙_}
 use Rattle.jobs.proofs.copying.copy_words.Statement.{statement}
 use Rattle.jobs.proofs.copying.copy_words.Tie as tie
-use Rattle.jobs.proofs.copying.copy_words.Reads as reads
-use Rattle.jobs.proofs.copying.copy_words.Lts as lts
 
 abbrev Inv-loop : tie.InvT-loop
 Inv-loop words k out₀ i₀ out i = (i ≤ k) × (length out ≡ length out₀) × (out ≡ sets out₀ 0 (take i words))

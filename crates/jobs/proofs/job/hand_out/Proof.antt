@@ -4,8 +4,6 @@ use mathlib.Core.Path.{refl}
 use borrow.Author.Needs.{needs}
 use Rattle.jobs.proofs.job.hand_out.Statement.{statement}
 use Rattle.jobs.proofs.job.hand_out.Tie as tie
-use Rattle.jobs.proofs.job.hand_out.Reads as reads
-use Rattle.jobs.proofs.job.hand_out.Lts as lts
 use Rattle.jobs.proofs.copying.copy_words.Reads as copy-words-reads
 
 returns : tie.Need-returns

@@ -2,8 +2,6 @@
 use borrow.Author.Needs.{needs}
 use Rattle.jobs.proofs.proposal.as_six.Statement.{statement}
 use Rattle.jobs.proofs.proposal.as_six.Tie as tie
-use Rattle.jobs.proofs.proposal.as_six.Reads as reads
-use Rattle.jobs.proofs.proposal.as_six.Lts as lts
 
 enum-known-o : tie.Need-enum-known-o
 enum-known-o c = search needs

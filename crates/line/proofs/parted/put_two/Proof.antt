@@ -1,7 +1,8 @@
--- The number, a field and the line feed, one after another; 1,024 bytes hold them all.
-use Rattle.line.proofs.Stores.{puts-then, puts-same, room-first, room-then}
+-- The number, a field and the line feed, one after another; 1,024 bytes hold them all, as no number has more than 20 digits.
+use native.Mathlib.Omega.{arith}
+use Rattle.line.proofs.Stores.{puts-then, puts-same, puts-length}
+use Rattle.line.proofs.Digits.{digits-most}
 use Rattle.line.proofs.Parts.{pair-parts}
-use Rattle.line.proofs.Widths.{pair-room}
 use borrow.Author.Needs.{needs}
 use Rattle.line.proofs.parted.put_two.Statement.{statement}
 use Rattle.line.proofs.parted.put_two.Tie as tie
@@ -9,20 +10,23 @@ use Rattle.line.proofs.parted.put_two.Tie as tie
 put-number-requires : tie.Need-put-number-requires
 put-number-requires c κs =
     let s = c .before .before in
-    room-first _ _ (pair-room (s .args .a) (s .args .b) (s .args .out .now) (s .pre))
+    record { fits = omega (arith, s .pre, digits-most (s .args .a), digits-most (s .args .b)) }
 
 put-field-requires : tie.Need-put-field-requires
 put-field-requires c κs =
     let first = c .before .before .before in
     let s = first .before .before .before in
-    room-first _ _ (room-then (first .put-number .ensures) (pair-room (s .args .a) (s .args .b) (s .args .out .now) (s .pre)))
+    let n = first .put-number .ensures in
+    record { fits = omega (arith, s .pre, n .next, puts-length n, digits-most (s .args .a), digits-most (s .args .b)) }
 
 put-end-requires : tie.Need-put-end-requires
 put-end-requires c κs =
     let second = c .before .before .before in
     let first = second .before .before .before .before in
     let s = first .before .before .before in
-    room-then (second .put-field .ensures) (room-then (first .put-number .ensures) (pair-room (s .args .a) (s .args .b) (s .args .out .now) (s .pre)))
+    let n = first .put-number .ensures in
+    let f = second .put-field .ensures in
+    record { fits = omega (arith, s .pre, n .next, puts-length n, f .next, puts-length f, digits-most (s .args .a), digits-most (s .args .b)) }
 
 same-length : tie.Need-same-length
 same-length c = search needs

@@ -1,24 +1,31 @@
--- Five fields, one after another.
-use Rattle.line.proofs.Stores.{puts-then, room-first, room-then}
+-- Five fields, one after another; there is room for them in any order.
+use native.Mathlib.Omega.{arith}
+use Rattle.line.proofs.Stores.{puts-then, puts-length}
+use Rattle.line.proofs.Widths.{head-length}
 use borrow.Author.Needs.{needs}
 use Rattle.line.proofs.table.put_head.Statement.{statement}
 use Rattle.line.proofs.table.put_head.Tie as tie
 
 put-number-requires : tie.Need-put-number-requires
-put-number-requires c κs = room-first _ _ (c .before .before .pre)
+put-number-requires c κs =
+    let s = c .before .before in
+    record { fits = omega (arith, s .pre .fits, head-length (s .args .society) (s .args .job) (s .args .loss) (s .args .gap)) }
 
 put-field-requires : tie.Need-put-field-requires
 put-field-requires c κs =
     let first = c .before .before .before in
     let s = first .before .before .before in
-    room-first _ _ (room-then (first .put-number .ensures) (s .pre))
+    let n = first .put-number .ensures in
+    record { fits = omega (arith, s .pre .fits, head-length (s .args .society) (s .args .job) (s .args .loss) (s .args .gap), n .next, puts-length n) }
 
 put-field-requires-2 : tie.Need-put-field-requires-2
 put-field-requires-2 c κs =
     let second = c .before .before .before in
     let first = second .before .before .before .before in
     let s = first .before .before .before in
-    room-first _ _ (room-then (second .put-field .ensures) (room-then (first .put-number .ensures) (s .pre)))
+    let n = first .put-number .ensures in
+    let p = second .put-field .ensures in
+    record { fits = omega (arith, s .pre .fits, head-length (s .args .society) (s .args .job) (s .args .loss) (s .args .gap), n .next, puts-length n, p .next, puts-length p) }
 
 put-field-requires-3 : tie.Need-put-field-requires-3
 put-field-requires-3 c κs =
@@ -26,7 +33,10 @@ put-field-requires-3 c κs =
     let second = third .before .before .before .before in
     let first = second .before .before .before .before in
     let s = first .before .before .before in
-    room-first _ _ (room-then (third .put-field2 .ensures) (room-then (second .put-field .ensures) (room-then (first .put-number .ensures) (s .pre))))
+    let n = first .put-number .ensures in
+    let p = second .put-field .ensures in
+    let q = third .put-field2 .ensures in
+    record { fits = omega (arith, s .pre .fits, head-length (s .args .society) (s .args .job) (s .args .loss) (s .args .gap), n .next, puts-length n, p .next, puts-length p, q .next, puts-length q) }
 
 put-field-requires-4 : tie.Need-put-field-requires-4
 put-field-requires-4 c κs =
@@ -35,7 +45,11 @@ put-field-requires-4 c κs =
     let second = third .before .before .before .before in
     let first = second .before .before .before .before in
     let s = first .before .before .before in
-    room-then (fourth .put-field3 .ensures) (room-then (third .put-field2 .ensures) (room-then (second .put-field .ensures) (room-then (first .put-number .ensures) (s .pre))))
+    let n = first .put-number .ensures in
+    let p = second .put-field .ensures in
+    let q = third .put-field2 .ensures in
+    let r = fourth .put-field3 .ensures in
+    record { fits = omega (arith, s .pre .fits, head-length (s .args .society) (s .args .job) (s .args .loss) (s .args .gap), n .next, puts-length n, p .next, puts-length p, q .next, puts-length q, r .next, puts-length r) }
 
 same-length : tie.Need-same-length
 same-length c = search needs

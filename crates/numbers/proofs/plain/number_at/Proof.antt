@@ -6,7 +6,6 @@ use Rattle.numbers.proofs.Climb.{Climb, climb-start, climb-short, climb
 use borrow.Author.Needs.{needs}
 use mathlib.Core.Path.{sym, _∙_}
 use native.Mathlib.Omega.{arith}
-use Prim.Native.Nat.{_-_}
 use Rattle.numbers.proofs.plain.number_at.Statement.{statement}
 use Rattle.numbers.proofs.plain.number_at.Tie as tie
 

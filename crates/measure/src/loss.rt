@@ -35,7 +35,7 @@ pub fn difference_at(values: &[i64], row: &[i64; 5], z: usize, i: usize) -> i64
     total
 }
 
-// The first `count` differences, each computed once, at the head of `out`.
+// The first `count` differences, each computed once, at the head of `out`. Where there are none, z may be any number, and no row is taken.
 pub fn differences(values: &[i64], z: usize, count: usize, out: &mut [i64])
     requires { ⌜ ((i : ℕ) → i < count → Differs z i (now values)) × (count ≤ length (now out)) ⌝ }
     ensures { λ _. ⌜ Filled count (differenceOf z (wordAt (now (values .entry)))) (now (out .entry)) (now (out .exit)) ⌝ }

@@ -1,4 +1,4 @@
--- The differences passed stand at the head, the rest is untouched. A call for none is over before the row is taken, as it says nothing of the order.
+-- The differences passed stand at the head, the rest is untouched.
 use mathlib.Core.Path.{_≡_}
 use Prim.Native.Nat.{_-_, _≤_}
 use native.Mathlib.Omega.{arith}

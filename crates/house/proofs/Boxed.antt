@@ -16,7 +16,7 @@ use Rattle.whole.proofs.Order.{pos-le}
 use Rattle.house.specs.Rounding.{nearestUp, roundedOut}
 use Rattle.house.specs.Proposal.{valueOf}
 use Rattle.house.proofs.Halves.{whole-value, within}
-use Rattle.house.proofs.Nearest.{start-low, start-high, nearest-is}
+use Rattle.house.proofs.Nearest.{from-below, from-above, nearest-is}
 
 -- x lies between lo and hi
 Between : (lo hi x : ℕ) → Type 0
@@ -28,8 +28,8 @@ nearest-between lo hi v l h a b =
     let w = within (ofInt binary64 (pos lo)) v (ofInt binary64 (pos hi)) lo hi (whole-value lo (omega arith)) (whole-value hi (omega arith)) a b in
     let d : 0 < den v * 2 = N.mul-pos (den-pos v) (lit< tt) in
     let swap : (x : ℕ) → x * 2 * den v ≡ x * (den v * 2) = λ x. N.mul-assoc x 2 (den v) ∙ ap (λ (k : ℕ). x * k) (N.mul-comm 2 (den v)) in
-    let low : lo * (den v * 2) ≤ num v * 2 + den v = subst (λ (k : ℕ). k ≤ num v * 2 + den v) (swap lo) (start-low (num v) (den v) lo (w .1)) in
-    let high : num v * 2 + den v < (hi + 1) * (den v * 2) = subst (λ (k : ℕ). num v * 2 + den v < k) (swap (hi + 1)) (start-high (num v) (den v) hi (w .2)) in
+    let low : lo * (den v * 2) ≤ num v * 2 + den v = subst (λ (k : ℕ). k ≤ num v * 2 + den v) (swap lo) (from-below (num v) (den v) lo (N.le-of-lt (w .1))) in
+    let high : num v * 2 + den v < (hi + 1) * (den v * 2) = subst (λ (k : ℕ). num v * 2 + den v < k) (swap (hi + 1)) (from-above (num v) (den v) hi (w .2)) in
     rw (nearest-is v (w .0)) (N.le-div-iff-mul-le d .1 low, under hi (N.div-lt-iff-lt-mul d .1 high))
   where
     under : (hi : ℕ) {x : ℕ} → x < hi + 1 → x ≤ hi

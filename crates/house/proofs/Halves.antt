@@ -2,17 +2,17 @@
 use mathlib.Core.Path.{_≡_, refl, sym, ap, _∙_, subst}
 use mathlib.Core.Logic.{_⊎_, ⊎-elim, inl, inr}
 use mathlib.Core.Bool.{Bool, true, false, true≢false}
-use Prim.Native.Nat.{ℕ, zero, suc, _+_, _-_, _*_, _^_, _≤_, _<_, zero-le}
-use native.Mathlib.Nat.{suc-mul, add-mul, lt-of-mul-lt-mul-right, mul-one, one-mul, mul-assoc, mul-right-comm, mul-pos, lt-of-le-of-lt, mul-le-mul-right}
+use Prim.Native.Nat.{ℕ, zero, suc, _+_, _-_, _*_, _/_, _^_, _≤_, _<_, zero-le, min}
+use native.Mathlib.Nat.{suc-mul, add-mul, lt-of-mul-lt-mul-right, mul-one, one-mul, zero-mul, mul-assoc, mul-right-comm, mul-pos, lt-irrefl, lt-of-le-of-lt, lt-of-lt-of-le, lt-of-not-le, mul-le-mul-right, div-lt-iff-lt-mul}
 use native.Mathlib.Omega.{arith}
 use lib.Dec.{T, leb, lt→ltb, ltb→lt, lit<}
 use lib.IntN.{pos}
-use lib.Ieee.{Float, nan, inf, fin, binary64, up, down, round, sum, add, sub, neg, le, lt, ofInt, ofBits}
+use lib.Ieee.{Float, nan, inf, fin, binary64, up, down, round, sum, add, sub, neg, le, lt, ofInt, toUnsigned, ofBits}
 use lib.Ieee.Exact.{HasValue, round-exact}
 use lib.Ieee.Back.{round-whole}
 use lib.Ieee.Scale.{round-same}
 use lib.Ieee.Fits.{down-pos}
-use lib.Ieee.Order.{le-of-values}
+use lib.Ieee.Order.{transfer, le-of-values}
 use lib.Ieee.Positive.{num, den, positive, den-pos, own-value, first-pos, positive-of-value, values-of-le}
 use borrow.Author.Tests.{le-ltb, leb-true, leb-false}
 
@@ -106,3 +106,44 @@ within (fin false m e) (fin false n d) (fin false k g) a b hx hy l u =
     let above : a * down d < n * up d = cancel a (n * up d) (down d) (down e) (m * up e) (hx .1) (ltb→lt (m * up e * down d) (n * up d * down e) l) in
     let under : n * up d < b * down d = cancel-above b (n * up d) (down d) (down g) (k * up g) (hy .1) (ltb→lt (n * up d * down g) (k * up g * down d) u) in
     (lt→ltb 0 n (first-pos n (up d) (lt-of-le-of-lt (zero-le) above)), above, under)
+
+-- ---- what the numbers say of a comparison
+lt-of-values : (x y : Float) (a c b d : ℕ) → HasValue x false a c → HasValue y false b d → a * d < b * c → T (lt x y)
+unfolding lt
+lt-of-values nan y a c b d hx hy l = absurd hx
+lt-of-values (inf s) y a c b d hx hy l = absurd hx
+lt-of-values (fin true m e) y a c b d hx hy l = absurd (true≢false (hx .0))
+lt-of-values (fin false m e) nan a c b d hx hy l = absurd hy
+lt-of-values (fin false m e) (inf t) a c b d hx hy l = absurd hy
+lt-of-values (fin false m e) (fin true n g) a c b d hx hy l = absurd (true≢false (hy .0))
+lt-of-values (fin false m e) (fin false n g) a c b d hx hy l =
+    lt→ltb (m * up e * down g) (n * up g * down e)
+    (lt-of-not-le (λ h. lt-irrefl (a * d)
+    (lt-of-lt-of-le l (transfer b a d c (n * up g) (m * up e) (down g) (down e) (down-pos g) (down-pos e) (sym (hy .1)) (sym (hx .1)) h))))
+
+-- a v within a box lies above 0, and below each number that the box does
+module _ (v : Float) (a b : ℕ) (w : Within v a b) where
+  pub above-zero : (x : Float) → HasValue x false 0 1 → T (lt x v)
+  above-zero x h = lt-of-values x v 0 1 (num v) (den v) h (own-value v (w .0)) (rw (zero-mul (den v), mul-one (num v)) (lt-of-le-of-lt zero-le (w .1)))
+
+  pub below-more : (y : Float) (c : ℕ) → HasValue y false c 1 → b ≤ c → T (lt v y)
+  below-more y c h l =
+      lt-of-values v y (num v) (den v) c 1 (own-value v (w .0)) h (rw (mul-one (num v)) (lt-of-lt-of-le (w .2) (mul-le-mul-right (den v) l)))
+
+pub above-minus-one : (v : Float) → T (positive v) → T (lt (fin true 1 (pos 0)) v)
+unfolding lt
+above-minus-one nan p = absurd p
+above-minus-one (inf s) p = absurd p
+above-minus-one (fin true m e) p = absurd p
+above-minus-one (fin false m e) p = lt→ltb 0 (1 * down e + m * up e * 1) (let d = down-pos e in omega (arith, d))
+
+-- the whole part of a v that is below 1,000,000
+uncapped : (a : ℕ) → a < 1000000 → min a (2 ^ 64 - 1) ≡ a
+uncapped a h = omega arith
+
+pub whole-part : (v : Float) → T (positive v) → num v < 1000000 * den v → toUnsigned 64 v ≡ num v / den v
+unfolding toUnsigned
+whole-part nan p l = absurd p
+whole-part (inf s) p l = absurd p
+whole-part (fin true m e) p l = absurd p
+whole-part (fin false m e) p l = uncapped (m * up e / down e) (div-lt-iff-lt-mul (down-pos e) .1 l)

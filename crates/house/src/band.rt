@@ -5,6 +5,7 @@ ghost use Prim.Native.Nat.{_≤_, _<_};
 ghost use lib.IntN.{natAbs, _*ℤ_};
 ghost use lib.Ieee.{binary64, ofInt};
 ghost use Rattle.jobs.specs.Words.{jobOf, cellsOf};
+ghost use Rattle.rows.specs.Rows.{IsRow};
 ghost use Rattle.house.specs.Known.{Known};
 ghost use Rattle.house.specs.Band.{productTerm, squaresAt, wholeEntry, entriesOf, bandOf, rightOf};
 
@@ -16,8 +17,8 @@ fn cast(x: i64) -> f64
 }
 
 // What the difference at i - m brings to K'K at (i, i - o): nothing where it does not use both cells.
-fn product_term(n: usize, z: usize, i: usize, o: usize, m: usize) -> i64
-    requires { ⌜ (n ≤ 120) × (z ≤ 4) × (i < n) × (m ≤ z) ⌝ }
+fn product_term(row: &[i64; 5], n: usize, z: usize, i: usize, o: usize, m: usize) -> i64
+    requires { ⌜ (n ≤ 120) × (z ≤ 4) × (i < n) × (m ≤ z) × IsRow z (now row) ⌝ }
     ensures { λ r. ⌜ r ≡ productTerm n z i o m ⌝ }
 {
     if m < o {
@@ -31,18 +32,18 @@ fn product_term(n: usize, z: usize, i: usize, o: usize, m: usize) -> i64
         return 0;
     }
     let other = m - o;
-    rows::row_at(z, m) * rows::row_at(z, other)
+    row[m] * row[other]
 }
 
 // K'K at (i, i - o).
-fn squares_at(n: usize, z: usize, i: usize, o: usize) -> i64
-    requires { ⌜ (n ≤ 120) × (z ≤ 4) × (i < n) ⌝ }
+fn squares_at(row: &[i64; 5], n: usize, z: usize, i: usize, o: usize) -> i64
+    requires { ⌜ (n ≤ 120) × (z ≤ 4) × (i < n) × IsRow z (now row) ⌝ }
     ensures { λ r. ⌜ r ≡ squaresAt n z i o ⌝ }
 {
     let mut total = 0i64;
     let mut m = 0;
     while m <= z {
-        total = total + product_term(n, z, i, o, m);
+        total = total + product_term(row, n, z, i, o, m);
         m += 1;
     }
     total
@@ -59,25 +60,25 @@ fn whole_entry(w: i64, k: i64, squares: i64, o: usize) -> i64
     k * squares
 }
 
-fn entry_at(w: i64, k: i64, n: usize, z: usize, i: usize, o: usize) -> f64
-    requires { ⌜ (natAbs w ≤ 1000) × (natAbs k ≤ 1000) × (n ≤ 120) × (z ≤ 4) × (i < n) ⌝ }
+fn entry_at(row: &[i64; 5], w: i64, k: i64, n: usize, z: usize, i: usize, o: usize) -> f64
+    requires { ⌜ (natAbs w ≤ 1000) × (natAbs k ≤ 1000) × (n ≤ 120) × (z ≤ 4) × (i < n) × IsRow z (now row) ⌝ }
     ensures { λ r. ⌜ r ≡ ofInt binary64 (wholeEntry w k (squaresAt n z i o) o) ⌝ }
 {
-    let squares = squares_at(n, z, i, o);
+    let squares = squares_at(row, n, z, i, o);
     let whole = whole_entry(w, k, squares, o);
     cast(whole)
 }
 
 // Row i of the band.
-fn entries_of(w: i64, k: i64, n: usize, z: usize, i: usize) -> [f64; 5]
-    requires { ⌜ (natAbs w ≤ 1000) × (natAbs k ≤ 1000) × (n ≤ 120) × (z ≤ 4) × (i < n) ⌝ }
+fn entries_of(row: &[i64; 5], w: i64, k: i64, n: usize, z: usize, i: usize) -> [f64; 5]
+    requires { ⌜ (natAbs w ≤ 1000) × (natAbs k ≤ 1000) × (n ≤ 120) × (z ≤ 4) × (i < n) × IsRow z (now row) ⌝ }
     ensures { λ r. ⌜ r ≡ entriesOf w k n z i ⌝ }
 {
-    let a = entry_at(w, k, n, z, i, 0);
-    let b = entry_at(w, k, n, z, i, 1);
-    let c = entry_at(w, k, n, z, i, 2);
-    let d = entry_at(w, k, n, z, i, 3);
-    let e = entry_at(w, k, n, z, i, 4);
+    let a = entry_at(row, w, k, n, z, i, 0);
+    let b = entry_at(row, w, k, n, z, i, 1);
+    let c = entry_at(row, w, k, n, z, i, 2);
+    let d = entry_at(row, w, k, n, z, i, 3);
+    let e = entry_at(row, w, k, n, z, i, 4);
     [a, b, c, d, e]
 }
 
@@ -86,12 +87,13 @@ pub fn band(words: &[i64], n: usize, z: usize) -> [[f64; 5]; CELLS]
     requires { ⌜ Known (now words) × (n ≡ cellsOf (now words)) × (z ≡ jobOf (now words) .order) ⌝ }
     ensures { λ r. ⌜ r ≡ bandOf (jobOf (now (words .entry))) ⌝ }
 {
+    let row = rows::row_of(z);
     let mut made = [[0.0; 5]; CELLS];
     let mut i = 0;
     while i < n {
         let base = 4 * i;
         let at = 7 + base;
-        let entries = entries_of(words[at], words[4], n, z, i);
+        let entries = entries_of(&row, words[at], words[4], n, z, i);
         made[i] = entries;
         i += 1;
     }

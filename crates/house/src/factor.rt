@@ -38,8 +38,8 @@ pub fn lowest_of(j: usize, z: usize) -> usize
 
 // x less (L(j,m) d(m)) L(i,m), for m rising from lo to i - 1; lj and li are the multipliers of the rows j and i.
 fn less_products(
-    lj: [f64; 4],
-    li: [f64; 4],
+    lj: &[f64; 4],
+    li: &[f64; 4],
     d: &[f64; CELLS],
     x: f64,
     j: usize,
@@ -47,7 +47,7 @@ fn less_products(
     lo: usize,
 ) -> f64
     requires { ⌜ (lo ≤ i) × (i ≤ j) × (j < 120) × (j ≤ lo + 4) ⌝ }
-    ensures { λ r. ⌜ r ≡ lessBy (productOf lj j li i (now (d .entry))) lo (i - lo) x ⌝ }
+    ensures { λ r. ⌜ r ≡ lessBy (productOf (now (lj .entry)) j (now (li .entry)) i (now (d .entry))) lo (i - lo) x ⌝ }
 {
     let mut rest = x;
     let mut m = lo;
@@ -76,7 +76,7 @@ fn multipliers_of(
     while i < j {
         let offset = j - i;
         let li = l[i];
-        let rest = less_products(made, li, d, entries[offset], j, i, lo);
+        let rest = less_products(&made, &li, d, entries[offset], j, i, lo);
         let place = offset - 1;
         made[place] = rest / d[i];
         i += 1;
@@ -97,7 +97,7 @@ pub fn factor_step(
 {
     let lo = lowest_of(j, z);
     let multipliers = multipliers_of(entries, d, l, j, lo);
-    let pivot = less_products(multipliers, multipliers, d, entries[0], j, j, lo);
+    let pivot = less_products(&multipliers, &multipliers, d, entries[0], j, j, lo);
     let row = Row { pivot, multipliers };
     if pivot > 0.0009765625 {
         return Step {

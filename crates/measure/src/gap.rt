@@ -37,10 +37,11 @@ pub fn total_of(
     ensures { λ g. ⌜ g ≡ runOf (jobOf (now (words .entry)) .tolerance) start (cellTermOn (now (words .entry)) (now (proposal .entry))) (cellsOf (now (words .entry))) ⌝ }
 {
     let tolerance = words::tolerance_of(words);
+    let row = rows::row_of(z);
     let mut total = start;
     let mut i: usize = 0;
     while i < n {
-        let r = residual::residual_at(words, proposal, n, z, d, i, parts[i]);
+        let r = residual::residual_at(words, proposal, n, z, &row, d, i, parts[i]);
         let t = cell_term_at(words, proposal, i, r);
         total = term::settled(tolerance, total, t);
         i += 1;

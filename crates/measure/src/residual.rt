@@ -4,7 +4,7 @@ ghost use Prim.Native.Nat.{_-_, _≤_};
 ghost use lib.IntN.{pos, _+ℤ_, _-ℤ_, _*ℤ_};
 ghost use Rattle.certificate.specs.Differences.{earlier};
 ghost use Rattle.jobs.specs.Words.{wordAt};
-ghost use Rattle.rows.specs.Rows.{rowOf};
+ghost use Rattle.rows.specs.Rows.{rowOf, IsRow};
 ghost use Rattle.measure.specs.Given.{Differences, Slopes, ResidualAt};
 ghost use Rattle.measure.specs.Running.{gatheredOf};
 ghost use Rattle.measure.specs.OnWords.{residualWith};
@@ -26,22 +26,22 @@ fn earlier_of(d: &[i64], count: usize, i: usize, m: usize) -> i64
 }
 
 // s(m) times the difference at i - m.
-fn gathered_term(d: &[i64], count: usize, z: usize, i: usize, m: usize) -> i64
-    requires { ⌜ Differences count (now d) × ((z ≤ 4) × (m ≤ z)) ⌝ }
+fn gathered_term(d: &[i64], row: &[i64; 5], count: usize, z: usize, i: usize, m: usize) -> i64
+    requires { ⌜ Differences count (now d) × (z ≤ 4) × (m ≤ z) × IsRow z (now row) ⌝ }
     ensures { λ r. ⌜ r ≡ rowOf z m *ℤ earlier (wordAt (now (d .entry))) count i m ⌝ }
 {
-    rows::row_at(z, m) * earlier_of(d, count, i, m)
+    row[m] * earlier_of(d, count, i, m)
 }
 
 // The sum, over every difference that uses the cell i, of the difference times that cell's s.
-fn gathered_at(d: &[i64], count: usize, z: usize, i: usize) -> i64
-    requires { ⌜ Differences count (now d) × (z ≤ 4) ⌝ }
+fn gathered_at(d: &[i64], row: &[i64; 5], count: usize, z: usize, i: usize) -> i64
+    requires { ⌜ Differences count (now d) × (z ≤ 4) × IsRow z (now row) ⌝ }
     ensures { λ r. ⌜ r ≡ gatheredOf z count (wordAt (now (d .entry))) i ⌝ }
 {
     let mut total: i64 = 0;
     let mut m: usize = 0;
     while m <= z {
-        total += gathered_term(d, count, z, i, m);
+        total += gathered_term(d, row, count, z, i, m);
         m += 1;
     }
     total
@@ -61,15 +61,16 @@ pub fn residual_at(
     values: &[i64],
     n: usize,
     z: usize,
+    row: &[i64; 5],
     d: &[i64],
     i: usize,
     part: i64,
 ) -> i64
-    requires { ⌜ ResidualAt (now words) (now values) n z (now d) i part ⌝ }
+    requires { ⌜ ResidualAt (now words) (now values) n z (now d) i part × IsRow z (now row) ⌝ }
     ensures { λ r. ⌜ r ≡ residualWith (now (words .entry)) (now (values .entry)) i part ⌝ }
 {
     let k = words::constant_of(words);
-    let s = gathered_at(d, n - z, z, i);
+    let s = gathered_at(d, row, n - z, z, i);
     let base = 4 * i;
     residual_from(words[7 + base], values[i], words[6 + base], k, s, part)
 }

@@ -1,7 +1,6 @@
 // The constant table of signed difference rows (document 01, "Loss and gap"), read by the loss, the residuals and the house proposal's band.
-ghost use mathlib.Core.Path.{_≡_};
 ghost use Prim.Native.Nat.{_≤_};
-ghost use Rattle.rows.specs.Rows.{rowOf};
+ghost use Rattle.rows.specs.Rows.{IsRow};
 
 // One row an order, with zeros after its last coefficient; no job has the order 0.
 pub const ROWS: [[i64; 5]; 5] = [
@@ -12,10 +11,10 @@ pub const ROWS: [[i64; 5]; 5] = [
     [1, -4, 6, -4, 1],
 ];
 
-// s(m) of the order z.
-pub fn row_at(z: usize, m: usize) -> i64
-    requires { ⌜ (z ≤ 4) × (m ≤ 4) ⌝ }
-    ensures { λ r. ⌜ r ≡ rowOf z m ⌝ }
+// The row of the order z, which a job's loops are lent.
+pub fn row_of(z: usize) -> [i64; 5]
+    requires { ⌜ z ≤ 4 ⌝ }
+    ensures { λ r. ⌜ IsRow z r ⌝ }
 {
-    ROWS[z][m]
+    ROWS[z]
 }

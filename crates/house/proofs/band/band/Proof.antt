@@ -20,58 +20,62 @@ abbrev lines : List ℤ → (n z : ℕ) → ℕ → List Float
 lines ws n z i = entriesOf (wordAt ws (7 + 4 * i)) (wordAt ws 4) n z i
 
 abbrev Inv-loop : tie.InvT-loop
-Inv-loop words n z made₀ i₀ made i = (i ≤ n) × (filled (lines words n z) (n - i) i made ≡ filled (lines words n z) n 0 made₀)
+Inv-loop words n z row made₀ i₀ made i = (i ≤ n) × (filled (lines words n z) (n - i) i made ≡ filled (lines words n z) n 0 made₀)
 
 abbrev μ-loop : tie.MeasureT-loop
-μ-loop words n z made₀ i₀ made i = n - i
+μ-loop words n z row made₀ i₀ made i = n - i
+
+row-of-requires : tie.Need-row-of-requires Inv-loop μ-loop
+row-of-requires c κs = omega (arith, order-few (c .pre .0), c .pre .2)
 
 loop-holds : tie.Need-loop-holds Inv-loop μ-loop
 loop-holds c =
-    let e : c .args .n - 0 ≡ c .args .n = omega arith in
+    let a = c .before .args in
+    let e : a .n - 0 ≡ a .n = omega arith in
     (omega arith, rw e)
 
 mul-base : tie.Need-mul-base Inv-loop μ-loop
-mul-base c = let few = cells-few (c .before .before .pre .0) in search needs
+mul-base c = let few = cells-few (c .before .before .before .pre .0) in search needs
 
 add-at : tie.Need-add-at Inv-loop μ-loop
-add-at c = let few = cells-few (c .before .before .pre .0) in search needs
+add-at c = let few = cells-few (c .before .before .before .pre .0) in search needs
 
 mul-entries-of : tie.Need-mul-entries-of Inv-loop μ-loop
-mul-entries-of c = let few = cells-few (c .before .before .pre .0) in search needs
+mul-entries-of c = let few = cells-few (c .before .before .before .before .pre .0) in search needs
 
 shared-slice-copy-out-entries-of : tie.Need-shared-slice-copy-out-entries-of Inv-loop μ-loop
-shared-slice-copy-out-entries-of c = omega (arith, inside (c .before .before .pre .0), c .before .before .pre .1)
+shared-slice-copy-out-entries-of c = omega (arith, inside (c .before .before .before .before .pre .0), c .before .before .before .before .pre .1)
 
 shared-slice-copy-out-entries-of-2 : tie.Need-shared-slice-copy-out-entries-of-2 Inv-loop μ-loop
-shared-slice-copy-out-entries-of-2 c = omega (arith, inside (c .before .before .before .pre .0))
+shared-slice-copy-out-entries-of-2 c = omega (arith, inside (c .before .before .before .before .before .pre .0))
 
 entries-of-requires : tie.Need-entries-of-requires Inv-loop μ-loop
 entries-of-requires c κs =
-    let head = c .before .before .before in
-    let s = head .before in
+    let head = c .before .before .before .before in
+    let s = head .before .before in
     let k = s .pre .0 in
     let ws = s .args .words .now in
     let i = head .loop .i in
     let h : i < cellsOf ws = omega (arith, s .pre .1) in
     rw (word-is (wordAt ws (7 + 4 * i)) (weight-small k h) (lit< tt), word-is (wordAt ws 4) (constant-small k) (lit< tt))
-    (weight-small k h, constant-small k, omega (arith, cells-few k, s .pre .1), omega (arith, order-few k, s .pre .2), omega arith)
+    (weight-small k h, constant-small k, omega (arith, cells-few k, s .pre .1), omega (arith, order-few k, s .pre .2), omega arith, head .before .row-of .ensures)
 
 mul-made : tie.Need-mul-made Inv-loop μ-loop
-mul-made c = let few = cells-few (c .before .before .before .before .before .pre .0) in search needs
+mul-made c = let few = cells-few (c .before .before .before .before .before .before .before .pre .0) in search needs
 
 array-set-from-made : tie.Need-array-set-from-made Inv-loop μ-loop
-array-set-from-made c = let few = cells-few (c .before .before .before .before .before .pre .0) in search needs
+array-set-from-made c = let few = cells-few (c .before .before .before .before .before .before .before .pre .0) in search needs
 
 add-i : tie.Need-add-i Inv-loop μ-loop
-add-i c = let few = cells-few (c .before .before .before .before .before .pre .0) in search needs
+add-i c = let few = cells-few (c .before .before .before .before .before .before .before .pre .0) in search needs
 
 loop-less : tie.Need-loop-less Inv-loop μ-loop
 loop-less c = search needs
 
 loop-again : tie.Need-loop-again Inv-loop μ-loop
 loop-again c =
-    let head = c .before .before .before .before in
-    let s = head .before in
+    let head = c .before .before .before .before .before in
+    let s = head .before .before in
     let k = s .pre .0 in
     let ws = s .args .words .now in
     let i = head .loop .i in
@@ -88,7 +92,7 @@ returns : tie.Need-returns Inv-loop μ-loop
 unfolding ofBits
 returns c =
     let head = c .before in
-    let s = head .before in
+    let s = head .before .before in
     let ws = s .args .words .now in
     sym (filled-done (lines ws (s .args .n) (s .args .z)) (head .loop .i) (s .args .n) (head .loop .made) (omega arith)) ∙ head .loop .inv .1
     ∙ ap₂ (λ (n z : ℕ). filled (lines ws n z) n 0 (replicate 120 (replicate 5 zero64))) (s .pre .1) (s .pre .2)
@@ -99,6 +103,7 @@ band-spec =
     (tie.spec
     Inv-loop
     μ-loop
+    row-of-requires
     loop-holds
     mul-base
     add-at

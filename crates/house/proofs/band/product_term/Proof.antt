@@ -21,22 +21,30 @@ add-last c = search needs
 returns-3 : tie.Need-returns-3
 returns-3 c = rw (le-leb _ _ (c .before .before .if1 .left), le-leb _ _ (c .before .if2 .left), le-ltb _ _ (c .if3 .taken))
 
-row-at-requires : tie.Need-row-at-requires
-row-at-requires c κs = search needs
-
-row-at-requires-2 : tie.Need-row-at-requires-2
-row-at-requires-2 c κs = search needs
-
 mul-result : tie.Need-mul-result
-mul-result c =
+mul-result c = search needs
+
+element-copy-out-result : tie.Need-element-copy-out-result
+element-copy-out-result c = search needs
+
+mul-result-2 : tie.Need-mul-result-2
+mul-result-2 c = search needs
+
+element-copy-out-result-2 : tie.Need-element-copy-out-result-2
+element-copy-out-result-2 c = search needs
+
+mul-result-3 : tie.Need-mul-result-3
+mul-result-3 c =
     let s = c .before .before .before .before .before in
-    product-fits (c .before .row-at .ensures) (c .row-at2 .ensures) (row-small (s .args .z) (s .args .m) (omega arith) (omega arith)) (row-small (s .args .z) (s .args .m - s .args .o) (omega arith) (omega arith)) (lit< tt) (lit< tt) (lit< tt)
+    let a = s .args in
+    product-fits (s .pre .4 .at (a .m)) (s .pre .4 .at (a .m - a .o)) (row-small (a .z) (a .m) (omega arith) (omega arith)) (row-small (a .z) (a .m - a .o) (omega arith) (omega arith)) (lit< tt) (lit< tt) (lit< tt)
 
 returns-4 : tie.Need-returns-4
 returns-4 c =
     let s = c .before .before .before .before .before in
+    let a = s .args in
     rw (le-leb _ _ (c .before .before .before .before .if1 .left), le-leb _ _ (c .before .before .before .if2 .left), lt-ltb _ _ (c .before .before .if3 .left))
-    (product-is (c .before .row-at .ensures) (c .row-at2 .ensures) (row-small (s .args .z) (s .args .m) (omega arith) (omega arith)) (row-small (s .args .z) (s .args .m - s .args .o) (omega arith) (omega arith)) (lit< tt) (lit< tt) (lit< tt))
+    (product-is (s .pre .4 .at (a .m)) (s .pre .4 .at (a .m - a .o)) (row-small (a .z) (a .m) (omega arith) (omega arith)) (row-small (a .z) (a .m - a .o) (omega arith) (omega arith)) (lit< tt) (lit< tt) (lit< tt))
 
 pub product-term-spec : {M : Type 1} → statement M
 product-term-spec =
@@ -46,7 +54,9 @@ product-term-spec =
     returns-2
     add-last
     returns-3
-    row-at-requires
-    row-at-requires-2
     mul-result
+    element-copy-out-result
+    mul-result-2
+    element-copy-out-result-2
+    mul-result-3
     returns-4)

@@ -11,10 +11,10 @@ use Rattle.house.proofs.band.squares_at.Statement.{statement}
 use Rattle.house.proofs.band.squares_at.Tie as tie
 
 abbrev Inv-loop : tie.InvT-loop
-Inv-loop n z i o total₀ m₀ total m = (m ≤ z + 1) × Holds total (sum m (productTerm n z i o))
+Inv-loop row n z i o total₀ m₀ total m = (m ≤ z + 1) × Holds total (sum m (productTerm n z i o))
 
 abbrev μ-loop : tie.MeasureT-loop
-μ-loop n z i o total₀ m₀ total m = z + 1 - m
+μ-loop row n z i o total₀ m₀ total m = z + 1 - m
 
 loop-holds : tie.Need-loop-holds Inv-loop μ-loop
 unfolding sum

@@ -20,7 +20,7 @@ less-products-requires c κs = search needs
 returns : tie.Need-returns
 returns c =
     let less = c .before in
-    let mult = less .before in
+    let mult = less .before .before .before in
     let low = mult .before in
     let a = low .before .args in
     accepted (less .less-products .result) (mult .multipliers-of .result) (c .if1 .taken)
@@ -29,7 +29,7 @@ returns c =
 returns-2 : tie.Need-returns-2
 returns-2 c =
     let less = c .before in
-    let mult = less .before in
+    let mult = less .before .before .before in
     let low = mult .before in
     let a = low .before .args in
     thin (less .less-products .result) (mult .multipliers-of .result) (c .if1 .left)

@@ -9,10 +9,10 @@ use Rattle.house.proofs.factor.less_products.Statement.{statement}
 use Rattle.house.proofs.factor.less_products.Tie as tie
 
 abbrev Inv-loop : tie.InvT-loop
-Inv-loop d x j i lo lj li rest₀ m₀ rest m = (lo ≤ m) × (m ≤ i) × (lessBy (productOf lj j li i d) m (i - m) rest ≡ lessBy (productOf lj j li i d) lo (i - lo) x)
+Inv-loop lj li d x j i lo rest₀ m₀ rest m = (lo ≤ m) × (m ≤ i) × (lessBy (productOf lj j li i d) m (i - m) rest ≡ lessBy (productOf lj j li i d) lo (i - lo) x)
 
 abbrev μ-loop : tie.MeasureT-loop
-μ-loop d x j i lo lj li rest₀ m₀ rest m = i - m
+μ-loop lj li d x j i lo rest₀ m₀ rest m = i - m
 
 loop-holds : tie.Need-loop-holds Inv-loop μ-loop
 loop-holds c = (search needs, search needs, refl)
@@ -32,20 +32,20 @@ sub-q-2 c = search needs
 mul-rest : tie.Need-mul-rest Inv-loop μ-loop
 mul-rest c = search needs
 
-array-read-rest : tie.Need-array-read-rest Inv-loop μ-loop
-array-read-rest c = search needs
+element-copy-out-rest : tie.Need-element-copy-out-rest Inv-loop μ-loop
+element-copy-out-rest c = search needs
 
 mul-rest-2 : tie.Need-mul-rest-2 Inv-loop μ-loop
 mul-rest-2 c = search needs
 
-element-copy-out-rest : tie.Need-element-copy-out-rest Inv-loop μ-loop
-element-copy-out-rest c = search needs
+element-copy-out-rest-2 : tie.Need-element-copy-out-rest-2 Inv-loop μ-loop
+element-copy-out-rest-2 c = search needs
 
 mul-rest-3 : tie.Need-mul-rest-3 Inv-loop μ-loop
 mul-rest-3 c = search needs
 
-array-read-rest-2 : tie.Need-array-read-rest-2 Inv-loop μ-loop
-array-read-rest-2 c = search needs
+element-copy-out-rest-3 : tie.Need-element-copy-out-rest-3 Inv-loop μ-loop
+element-copy-out-rest-3 c = search needs
 
 add-m : tie.Need-add-m Inv-loop μ-loop
 add-m c = search needs
@@ -55,15 +55,15 @@ loop-less c = search needs
 
 loop-again : tie.Need-loop-again Inv-loop μ-loop
 loop-again c =
-    let head = c .before .before in
+    let head = c .before .before .before .before in
     let a = head .before .args in
-    (omega arith, omega arith, sym (less-more (productOf (a .t1) (a .j) (a .t2) (a .i) (a .d .now)) (head .loop .m) (a .i) (head .loop .rest) (omega arith)) ∙ head .loop .inv .2)
+    (omega arith, omega arith, sym (less-more (productOf (a .lj .now) (a .j) (a .li .now) (a .i) (a .d .now)) (head .loop .m) (a .i) (head .loop .rest) (omega arith)) ∙ head .loop .inv .2)
 
 returns : tie.Need-returns Inv-loop μ-loop
 returns c =
     let head = c .before in
     let a = head .before .args in
-    sym (less-done (productOf (a .t1) (a .j) (a .t2) (a .i) (a .d .now)) (head .loop .m) (a .i) (head .loop .rest) (omega arith)) ∙ head .loop .inv .2
+    sym (less-done (productOf (a .lj .now) (a .j) (a .li .now) (a .i) (a .d .now)) (head .loop .m) (a .i) (head .loop .rest) (omega arith)) ∙ head .loop .inv .2
 
 pub less-products-spec : {M : Type 1} → statement M
 less-products-spec =
@@ -77,11 +77,11 @@ less-products-spec =
     sub-q
     sub-q-2
     mul-rest
-    array-read-rest
-    mul-rest-2
     element-copy-out-rest
+    mul-rest-2
+    element-copy-out-rest-2
     mul-rest-3
-    array-read-rest-2
+    element-copy-out-rest-3
     add-m
     loop-less
     loop-again

@@ -61,7 +61,7 @@ loop-less c = search needs
 loop-again : tie.Need-loop-again Inv-loop μ-loop
 unfolding multiplierOf
 loop-again c =
-    let head = c .before .before .before .before in
+    let head = c .before .before .before .before .before .before in
     let a = head .before .args in
     let i = head .loop .i in
     let made = head .loop .made in (

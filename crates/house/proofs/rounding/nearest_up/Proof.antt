@@ -1,107 +1,66 @@
--- The answer stays between a and b: v + 1/2 is a at least and below b, and the two draw together.
-use mathlib.Core.Path.{_≡_, sym, _∙_, subst}
+-- v lies between its whole part and the next whole number, and the comparison says on which side of their middle.
+use mathlib.Core.Path.{_≡_, refl, sym, _∙_}
 use mathlib.Core.Bool.{false}
-use Prim.Native.Nat.{ℕ, _+_, _-_, _*_, _/_, _≤_, _<_, _^_}
+use Prim.Native.Nat.{ℕ, _+_, _-_, _*_, _/_, _<_, _^_}
+use native.Mathlib.Nat.{div-lt-iff-lt-mul}
 use native.Mathlib.Omega.{arith}
-use lib.Dec.{lit<}
+use lib.Dec.{lit<, leb→le}
 use lib.IntN.{pos}
-use lib.Ieee.{binary64, ofInt, sub}
+use lib.Ieee.{fin, binary64, ofInt, sub}
 use lib.Ieee.Exact.{HasValue}
-use lib.Ieee.Positive.{num, den}
-use Rattle.house.proofs.Halves.{half, whole-value, minus-half, le-says, gt-says, Within, within}
-use Rattle.house.proofs.Nearest.{start-low, start-high, step-low, step-high, at-end, nearest-is, box-order}
+use lib.Ieee.Positive.{num, den, den-pos}
+use Rattle.house.proofs.Halves.{half, whole-value, minus-half, le-says, gt-says, Within, within, below-more, above-minus-one, whole-part}
+use Rattle.house.proofs.Nearest.{nearest-is, goes-up, stays}
 use Rattle.house.proofs.rounding.nearest_up.Statement.{statement}
 use Rattle.house.proofs.rounding.nearest_up.Tie as tie
 
-abbrev Inv-loop : tie.InvT-loop
-Inv-loop v lo hi a₀ b₀ a b =
-    (lo ≤ a) × (a < b) × (b ≤ hi + 1) × (a * 2 * den v ≤ num v * 2 + den v) × (num v * 2 + den v < b * 2 * den v)
-
-abbrev μ-loop : tie.MeasureT-loop
-μ-loop v lo hi a₀ b₀ a b = b - a
-
--- v lies within the box
-inside : (c : tie.Start Inv-loop μ-loop) → Within (c .args .v) (c .args .lo) (c .args .hi)
+inside : (c : tie.Start) → Within (c .args .v) 0 1000000
 inside c =
-    let a = c .args in
-    within (ofInt binary64 (pos (a .lo))) (a .v) (ofInt binary64 (pos (a .hi))) (a .lo) (a .hi) (whole-value (a .lo) (omega arith)) (whole-value (a .hi) (omega arith)) (c .pre .1) (c .pre .2)
+    within (ofInt binary64 (pos 0)) (c .args .v) (ofInt binary64 (pos 1000000)) 0 1000000 (whole-value 0 (leb→le 0 (2 ^ 53) tt)) (whole-value 1000000 (leb→le 1000000 (2 ^ 53) tt)) (c .pre .0) (c .pre .1)
 
-halved : (m : ℕ) → 1 ≤ m → m ≤ 2 ^ 52 → HasValue (sub binary64 (ofInt binary64 (pos m)) half) false (m * 2 - 1) 2
-halved m l u = minus-half (ofInt binary64 (pos m)) m (whole-value m (omega arith)) l u
+-- the whole part of v, as the code has it
+part : (c : tie.After-truncating-f64-to-u64) → c .truncating-f64-to-u64 .result ≡ num (c .before .args .v) / den (c .before .args .v)
+part c = c .truncating-f64-to-u64 .ensures ∙ whole-part (c .before .args .v) (inside (c .before) .0) (inside (c .before) .2)
 
-add-b : tie.Need-add-b Inv-loop μ-loop
-add-b c = omega arith
+few : (c : tie.After-truncating-f64-to-u64) → c .truncating-f64-to-u64 .result < 1000000
+few c = rw (part c) (div-lt-iff-lt-mul (den-pos (c .before .args .v)) .1 (inside (c .before) .2))
 
-loop-holds : tie.Need-loop-holds Inv-loop μ-loop
-loop-holds c =
-    let a = c .args in
-    let w = inside c in
-    let less = box-order (num (a .v)) (den (a .v)) (a .lo) (a .hi) (w .1) (w .2) in
-    (omega arith, omega arith, omega arith, start-low (num (a .v)) (den (a .v)) (a .lo) (w .1), start-high (num (a .v)) (den (a .v)) (a .hi) (w .2))
+next-less-half : (n : ℕ) → n < 1000000 → HasValue (sub binary64 (ofInt binary64 (pos (n + 1))) half) false ((n + 1) * 2 - 1) 2
+next-less-half n h = minus-half (ofInt binary64 (pos (n + 1))) (n + 1) (whole-value (n + 1) (omega arith)) (omega arith) (omega arith)
 
-sub-loop : tie.Need-sub-loop Inv-loop μ-loop
-sub-loop c = omega arith
+truncating-f64-to-u64-requires : tie.Need-truncating-f64-to-u64-requires
+truncating-f64-to-u64-requires c κs =
+    let v = c .args .v in
+    (above-minus-one v (inside c .0), below-more v 0 1000000 (inside c) (fin false 1 (pos 64)) (2 ^ 64) (refl, refl) (leb→le 1000000 (2 ^ 64) tt))
 
-sub-m : tie.Need-sub-m Inv-loop μ-loop
-sub-m c = omega arith
+cast-down : tie.Need-cast-down
+cast-down c = omega (arith, few c)
 
-add-m : tie.Need-add-m Inv-loop μ-loop
-add-m c = omega arith
+add-next : tie.Need-add-next
+add-next c = omega (arith, few c)
 
-int-to-float-x : tie.Need-int-to-float-x Inv-loop μ-loop
-int-to-float-x c = tt
+int-to-float-least : tie.Need-int-to-float-least
+int-to-float-least c = tt
 
-loop-less : tie.Need-loop-less Inv-loop μ-loop
-loop-less c = omega arith
-
-loop-again : tie.Need-loop-again Inv-loop μ-loop
-loop-again c =
-    let at = c .before .before .before in
-    let v = at .before .args .v in
-    let a = at .loop .a in
-    let b = at .loop .b in
-    let m = a + (b - a) / 2 in
-    let one : 1 ≤ m = omega arith in
-    let low = step-low (num v) (den v) m one (le-says (sub binary64 (ofInt binary64 (pos m)) half) v (m * 2 - 1) 2 (omega arith) (lit< tt) (halved m one (omega arith)) (inside (at .before) .0) (c .if1 .taken)) in
-    (omega arith, omega arith, omega arith, low, at .loop .inv .4)
-
-loop-less-2 : tie.Need-loop-less-2 Inv-loop μ-loop
-loop-less-2 c = omega arith
-
-loop-again-2 : tie.Need-loop-again-2 Inv-loop μ-loop
-loop-again-2 c =
-    let at = c .before .before .before in
-    let v = at .before .args .v in
-    let a = at .loop .a in
-    let b = at .loop .b in
-    let m = a + (b - a) / 2 in
-    let one : 1 ≤ m = omega arith in
-    let high = step-high (num v) (den v) m one (gt-says (sub binary64 (ofInt binary64 (pos m)) half) v (m * 2 - 1) 2 (omega arith) (lit< tt) (halved m one (omega arith)) (inside (at .before) .0) (c .if1 .left)) in
-    (omega arith, omega arith, omega arith, at .loop .inv .3, high)
-
-returns : tie.Need-returns Inv-loop μ-loop
+returns : tie.Need-returns
 returns c =
-    let at = c .before in
-    let v = at .before .args .v in
-    let a = at .loop .a in
-    let next : at .loop .b ≡ a + 1 = omega arith in
-    sym (nearest-is v (inside (at .before) .0)
-    ∙ at-end (num v) (den v) a (at .loop .inv .3) (subst (λ (k : ℕ). num v * 2 + den v < k * 2 * den v) next (at .loop .inv .4)))
+    let t = c .before .before in
+    let v = t .before .args .v in
+    let w = t .truncating-f64-to-u64 .result in
+    let p = inside (t .before) .0 in
+    let l = le-says (sub binary64 (ofInt binary64 (pos (w + 1))) half) v ((w + 1) * 2 - 1) 2 (omega arith) (lit< tt) (next-less-half w (few t)) p (c .if1 .taken) in
+    sym (nearest-is v p ∙ goes-up (num v) (den v) (den-pos v) w (part t) l)
+
+returns-2 : tie.Need-returns-2
+returns-2 c =
+    let t = c .before .before in
+    let v = t .before .args .v in
+    let w = t .truncating-f64-to-u64 .result in
+    let p = inside (t .before) .0 in
+    let l = gt-says (sub binary64 (ofInt binary64 (pos (w + 1))) half) v ((w + 1) * 2 - 1) 2 (omega arith) (lit< tt) (next-less-half w (few t)) p (c .if1 .left) in
+    sym (nearest-is v p ∙ stays (num v) (den v) (den-pos v) w (part t) l)
 
 pub nearest-up-spec : {M : Type 1} → statement M
 nearest-up-spec =
     tie.close
-    (tie.spec
-    Inv-loop
-    μ-loop
-    add-b
-    loop-holds
-    sub-loop
-    sub-m
-    add-m
-    int-to-float-x
-    loop-less
-    loop-again
-    loop-less-2
-    loop-again-2
-    returns)
+    (tie.spec truncating-f64-to-u64-requires cast-down add-next int-to-float-least returns returns-2)

@@ -55,11 +55,11 @@ loop-less c = search needs
 
 loop-again : tie.Need-loop-again Inv-loop μ-loop
 loop-again c =
-    let head = c .before .before .before .before .before in
+    let head = c .before .before .before .before .before .before in
     let a = head .before .args in
     let j = head .loop .j in
     let y = head .loop .y in
-    let low = c .before .before .before .lowest-of .ensures in (
+    let low = c .before .before .before .before .lowest-of .ensures in (
       omega arith,
       ap (λ (x : Float). forwardFrom (a .l .now) (a .z) (a .n - (j + 1)) (j + 1) (set y j x)) (c .less-lower .ensures ∙ ap (λ (k : ℕ). lessBy (lowerTerm (getD (a .l .now) j []) j y) k (j - k) (getD y j nan)) low)
           ∙ sym (forward-more (a .l .now) (a .z) j (a .n) y (omega arith)) ∙ head .loop .inv .1,

@@ -10,10 +10,10 @@ use Rattle.house.proofs.solve.less_lower.Statement.{statement}
 use Rattle.house.proofs.solve.less_lower.Tie as tie
 
 abbrev Inv-loop : tie.InvT-loop
-Inv-loop y x j lo lj rest₀ m₀ rest m = (lo ≤ m) × (m ≤ j) × (lessBy (lowerTerm lj j y) m (j - m) rest ≡ lessBy (lowerTerm lj j y) lo (j - lo) x)
+Inv-loop lj y x j lo rest₀ m₀ rest m = (lo ≤ m) × (m ≤ j) × (lessBy (lowerTerm lj j y) m (j - m) rest ≡ lessBy (lowerTerm lj j y) lo (j - lo) x)
 
 abbrev μ-loop : tie.MeasureT-loop
-μ-loop y x j lo lj rest₀ m₀ rest m = j - m
+μ-loop lj y x j lo rest₀ m₀ rest m = j - m
 
 loop-holds : tie.Need-loop-holds Inv-loop μ-loop
 loop-holds c = (search needs, search needs, refl)
@@ -27,14 +27,14 @@ sub-p-2 c = search needs
 mul-rest : tie.Need-mul-rest Inv-loop μ-loop
 mul-rest c = search needs
 
-array-read-rest : tie.Need-array-read-rest Inv-loop μ-loop
-array-read-rest c = search needs
+element-copy-out-rest : tie.Need-element-copy-out-rest Inv-loop μ-loop
+element-copy-out-rest c = search needs
 
 mul-rest-2 : tie.Need-mul-rest-2 Inv-loop μ-loop
 mul-rest-2 c = search needs
 
-element-copy-out-rest : tie.Need-element-copy-out-rest Inv-loop μ-loop
-element-copy-out-rest c = search needs
+element-copy-out-rest-2 : tie.Need-element-copy-out-rest-2 Inv-loop μ-loop
+element-copy-out-rest-2 c = search needs
 
 add-m : tie.Need-add-m Inv-loop μ-loop
 add-m c = search needs
@@ -44,15 +44,15 @@ loop-less c = search needs
 
 loop-again : tie.Need-loop-again Inv-loop μ-loop
 loop-again c =
-    let head = c .before .before in
+    let head = c .before .before .before in
     let a = head .before .args in
-    (omega arith, omega arith, sym (less-more (lowerTerm (a .t1) (a .j) (a .y .now)) (head .loop .m) (a .j) (head .loop .rest) (omega arith)) ∙ head .loop .inv .2)
+    (omega arith, omega arith, sym (less-more (lowerTerm (a .lj .now) (a .j) (a .y .now)) (head .loop .m) (a .j) (head .loop .rest) (omega arith)) ∙ head .loop .inv .2)
 
 returns : tie.Need-returns Inv-loop μ-loop
 returns c =
     let head = c .before in
     let a = head .before .args in
-    sym (less-done (lowerTerm (a .t1) (a .j) (a .y .now)) (head .loop .m) (a .j) (head .loop .rest) (omega arith)) ∙ head .loop .inv .2
+    sym (less-done (lowerTerm (a .lj .now) (a .j) (a .y .now)) (head .loop .m) (a .j) (head .loop .rest) (omega arith)) ∙ head .loop .inv .2
 
 pub less-lower-spec : {M : Type 1} → statement M
 less-lower-spec =
@@ -64,9 +64,9 @@ less-lower-spec =
     sub-p
     sub-p-2
     mul-rest
-    array-read-rest
-    mul-rest-2
     element-copy-out-rest
+    mul-rest-2
+    element-copy-out-rest-2
     add-m
     loop-less
     loop-again

@@ -15,19 +15,19 @@ use Rattle.measure.proofs.loss.difference_at.Statement.{statement}
 use Rattle.measure.proofs.loss.difference_at.Tie as tie
 
 abbrev Inv-loop : tie.InvT-loop
-Inv-loop values z i total₀ m₀ total m = (m ≤ suc z) × Holds total (sum m (λ m. rowOf z m *ℤ wordAt values (i + m)))
+Inv-loop values row z i total₀ m₀ total m = (m ≤ suc z) × Holds total (sum m (λ m. rowOf z m *ℤ wordAt values (i + m)))
 
 abbrev μ-loop : tie.MeasureT-loop
-μ-loop values z i total₀ m₀ total m = suc z - m
+μ-loop values row z i total₀ m₀ total m = suc z - m
 
 loop-holds : tie.Need-loop-holds Inv-loop μ-loop
 loop-holds c = (omega arith, record { is = sym (sum-zero _) })
 
 difference-term-requires : tie.Need-difference-term-requires Inv-loop μ-loop
-difference-term-requires c κs = (c .before .before .pre, omega arith)
+difference-term-requires c κs = (c .before .before .pre .0, omega arith, c .before .before .pre .1)
 
 add-total : tie.Need-add-total Inv-loop μ-loop
-add-total c = adds-fits (difference-adds (c .before .before .before .pre)) (omega arith) (c .before .before .loop .inv .1) (c .difference-term .ensures)
+add-total c = adds-fits (difference-adds (c .before .before .before .pre .0)) (omega arith) (c .before .before .loop .inv .1) (c .difference-term .ensures)
 
 add-m : tie.Need-add-m Inv-loop μ-loop
 add-m c = omega arith
@@ -36,7 +36,7 @@ loop-less : tie.Need-loop-less Inv-loop μ-loop
 loop-less c = omega arith
 
 loop-again : tie.Need-loop-again Inv-loop μ-loop
-loop-again c = (omega arith, adds-next (difference-adds (c .before .before .before .pre)) (omega arith) (c .before .before .loop .inv .1) (c .difference-term .ensures))
+loop-again c = (omega arith, adds-next (difference-adds (c .before .before .before .pre .0)) (omega arith) (c .before .before .loop .inv .1) (c .difference-term .ensures))
 
 returns : tie.Need-returns Inv-loop μ-loop
 unfolding differenceOf

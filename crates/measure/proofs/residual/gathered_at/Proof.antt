@@ -16,16 +16,16 @@ use Rattle.measure.proofs.residual.gathered_at.Statement.{statement}
 use Rattle.measure.proofs.residual.gathered_at.Tie as tie
 
 abbrev Inv-loop : tie.InvT-loop
-Inv-loop d count z i total₀ m₀ total m = (m ≤ suc z) × Holds total (sum m (λ m. rowOf z m *ℤ earlier (wordAt d) count i m))
+Inv-loop d row count z i total₀ m₀ total m = (m ≤ suc z) × Holds total (sum m (λ m. rowOf z m *ℤ earlier (wordAt d) count i m))
 
 abbrev μ-loop : tie.MeasureT-loop
-μ-loop d count z i total₀ m₀ total m = suc z - m
+μ-loop d row count z i total₀ m₀ total m = suc z - m
 
 loop-holds : tie.Need-loop-holds Inv-loop μ-loop
 loop-holds c = (omega arith, record { is = sym (sum-zero _) })
 
 gathered-term-requires : tie.Need-gathered-term-requires Inv-loop μ-loop
-gathered-term-requires c κs = (c .before .before .pre .0, (c .before .before .pre .1, omega arith))
+gathered-term-requires c κs = (c .before .before .pre .0, c .before .before .pre .1, omega arith, c .before .before .pre .2)
 
 add-total : tie.Need-add-total Inv-loop μ-loop
 add-total c = adds-fits (gathered-adds (c .before .before .before .pre .0) _ _ (c .before .before .before .pre .1)) (omega arith) (c .before .before .loop .inv .1) (c .gathered-term .ensures)

@@ -5,19 +5,28 @@ use Rattle.measure.proofs.Residuals.{gathered-term-fits, gathered-term-
 use Rattle.measure.proofs.residual.gathered_term.Statement.{statement}
 use Rattle.measure.proofs.residual.gathered_term.Tie as tie
 
-row-at-requires : tie.Need-row-at-requires
-row-at-requires c κs = search needs
+mul-result : tie.Need-mul-result
+mul-result c = search needs
+
+element-copy-out-result : tie.Need-element-copy-out-result
+element-copy-out-result c = search needs
 
 earlier-of-requires : tie.Need-earlier-of-requires
 earlier-of-requires c κs = search needs
 
-mul-result : tie.Need-mul-result
-mul-result c = fits-by (gathered-term-is (c .before .before .pre .0) _ _ (c .before .before .pre .1 .0) (c .before .before .pre .1 .1) (c .before .row-at .ensures) (c .earlier-of .ensures))
-    (gathered-term-fits (c .before .before .pre .0) _ _ (c .before .before .pre .1 .0) _ (c .before .before .pre .1 .1))
+mul-result-2 : tie.Need-mul-result-2
+mul-result-2 c =
+    let s = c .before .before in
+    fits-by (gathered-term-is (s .pre .0) _ _ (s .pre .1) (s .pre .2) (s .pre .3 .at (s .args .m)) (c .earlier-of .ensures))
+    (gathered-term-fits (s .pre .0) _ _ (s .pre .1) _ (s .pre .2))
 
 returns : tie.Need-returns
-returns c = gives (gathered-term-is (c .before .before .pre .0) _ _ (c .before .before .pre .1 .0) (c .before .before .pre .1 .1) (c .before .row-at .ensures) (c .earlier-of .ensures))
-    (gathered-term-fits (c .before .before .pre .0) _ _ (c .before .before .pre .1 .0) _ (c .before .before .pre .1 .1))
+returns c =
+    let s = c .before .before in
+    gives (gathered-term-is (s .pre .0) _ _ (s .pre .1) (s .pre .2) (s .pre .3 .at (s .args .m)) (c .earlier-of .ensures))
+    (gathered-term-fits (s .pre .0) _ _ (s .pre .1) _ (s .pre .2))
 
 pub gathered-term-spec : {M : Type 1} → statement M
-gathered-term-spec = tie.close (tie.spec row-at-requires earlier-of-requires mul-result returns)
+gathered-term-spec =
+    tie.close
+    (tie.spec mul-result element-copy-out-result earlier-of-requires mul-result-2 returns)

@@ -12,7 +12,7 @@ sub-gathered-at : tie.Need-sub-gathered-at
 sub-gathered-at c = search needs
 
 gathered-at-requires : tie.Need-gathered-at-requires
-gathered-at-requires c κs = residual-differences (c .before .pre)
+gathered-at-requires c κs = let d = residual-differences (c .before .pre .0) in (d .0, d .1, c .before .pre .1)
 
 mul-base : tie.Need-mul-base
 mul-base c = search needs
@@ -24,7 +24,7 @@ mul-residual-from : tie.Need-mul-residual-from
 mul-residual-from c = search needs
 
 shared-slice-copy-out-residual-from : tie.Need-shared-slice-copy-out-residual-from
-shared-slice-copy-out-residual-from c = omega (arith, residual-words (c .before .before .pre))
+shared-slice-copy-out-residual-from c = omega (arith, residual-words (c .before .before .pre .0))
 
 mul-residual-from-2 : tie.Need-mul-residual-from-2
 mul-residual-from-2 c = search needs
@@ -39,13 +39,13 @@ mul-residual-from-3 : tie.Need-mul-residual-from-3
 mul-residual-from-3 c = search needs
 
 shared-slice-copy-out-residual-from-3 : tie.Need-shared-slice-copy-out-residual-from-3
-shared-slice-copy-out-residual-from-3 c = omega (arith, residual-words (c .before .before .before .before .pre))
+shared-slice-copy-out-residual-from-3 c = omega (arith, residual-words (c .before .before .before .before .pre .0))
 
 residual-from-requires : tie.Need-residual-from-requires
-residual-from-requires c κs = residual-call (c .before .before .before .before .before .pre) (c .before .before .before .before .constant-of .ensures) (c .before .before .before .gathered-at .ensures)
+residual-from-requires c κs = residual-call (c .before .before .before .before .before .pre .0) (c .before .before .before .before .constant-of .ensures) (c .before .before .before .gathered-at .ensures)
 
 returns : tie.Need-returns
-returns c = residual-result (c .before .before .before .before .before .before .pre) (c .before .before .before .before .before .constant-of .ensures) (c .before .before .before .before .gathered-at .ensures) (c .residual-from .ensures)
+returns c = residual-result (c .before .before .before .before .before .before .pre .0) (c .before .before .before .before .before .constant-of .ensures) (c .before .before .before .before .gathered-at .ensures) (c .residual-from .ensures)
 
 pub residual-at-spec : {M : Type 1} → statement M
 residual-at-spec =

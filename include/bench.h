@@ -54,7 +54,8 @@
  *   - No pointer is null, even where the count is 0: pass any valid address.
  *   - Each count is true, and each pointer is aligned for its elements.
  *   - No two slices of one call overlap, unless the call only reads both. A pointer to const is only read.
- *   - BENCH_STACK_BYTES of stack are free: a call puts its working room there. bench_keep uses most, about 40 KB.
+ *   - BENCH_STACK_BYTES of stack are free: a call puts its working room there. bench_propose uses most, about 29 KB.
+ *   - a call names the right society: every call acts for the society that its job pack or its argument names, whoever makes it.
  *
  * Calls may run at the same time on several threads as long as no slice that one of them writes is lent to another. Calls on different
  * shelves are independent.

@@ -9,7 +9,7 @@ use lib.Signed.{_≤ℤ_}
 use Rattle.whole.specs.Sum.{sum}
 use Rattle.whole.proofs.Order.{pos-nonneg}
 use Rattle.certificate.specs.Problem.{Problem, loss, scaledLoss, gap, Meets}
-use Rattle.certificate.specs.Terms.{cellTerm, terms}
+use Rattle.certificate.specs.Terms.{squareTerm, cellTerm, terms}
 use Rattle.certificate.specs.Differences.{Family, coefficient}
 use Rattle.certificate.proofs.Certificate.{lower-bound}
 use Rattle.certificate.proofs.Terms.{rule-certifies}
@@ -52,6 +52,10 @@ gap-is-0 = refl
 -- the cell term of specs/Terms.antt
 pub term-is-7 : cellTerm limit (pos 1) (pos 5) (pos 0) (pos 10) (pos 3) ≡ pos 7
 term-is-7 = refl
+
+-- "with r = 1, w = 1 that side of the choice must be 1"
+pub square-is-1 : squareTerm (pos 1) (pos 1) ≡ pos 1
+square-is-1 = refl
 
 pub best : (d : ℤ) (X : ℕ → ℤ) → pos 1 ≤ℤ d → Meets job d X → (d *ℤ d *ℤ pos 28) ≤ℤ scaledLoss job d X
 unfolding sum

@@ -12,14 +12,21 @@ NOT_TRIED = re.compile(r'is not in scope|can be named from here|was not admitted
 # product or a cast fits, an index, a length, which variant a value is) are steps on the way there.
 FACT_OF_A_FUNCTION = re.compile(r'(?:^|-)(?:returns|loop-holds|loop-again|loop-less|requires)(?:-\d+)?$')
 
+# Of a function that has no file in proofs/, because the prover finds its proof by itself: the first need that it does not find.
+NOT_FOUND = re.compile(r'^(fn \S+): no proof: .*`search` does not close `([^`]+)`')
+
 
 def first_error(log):
     """Of a log's path: its first error as (place, declaration, message), or None; and the line itself, or why there is none."""
     if not os.path.exists(log):
         return None, f'no log of its refusal at {log}'
     with open(log, encoding='utf-8') as f:
-        first = next((line for line in f.read().split('\n') if ': error' in line), 'no error')
+        lines = f.read().split('\n')
+    first = next((line for line in lines if ': error' in line), 'no error')
     m = ERROR.match(first)
+    found = next(filter(None, map(NOT_FOUND.match, lines)), None)
+    if found and (m is None or 'was not admitted' in m[4]):
+        return (found[1], found[2], 'not found by the prover'), found[0][:200]
     return m and (f'{m[1]}:{m[2]}', m[3], m[4]), first[:200]
 
 
@@ -32,6 +39,6 @@ def no_fact(error, line):
     place, declaration, message = error
     if NOT_TRIED.search(message):
         return f'refused, but no fact was tried: {line}'
-    if place.split(':')[0].endswith('/Proof.antt') and not FACT_OF_A_FUNCTION.search(declaration):
+    if re.search(r'^fn |/Proof\.antt:', place) and not FACT_OF_A_FUNCTION.search(declaration):
         return f'refused at {place} by `{declaration}`, which is a step and no fact'
     return None

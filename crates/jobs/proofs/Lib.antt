@@ -13,3 +13,4 @@ pub mod Handed
 pub mod Trips
 pub mod Examples
 pub mod Near
+pub mod Writable

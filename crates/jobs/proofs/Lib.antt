@@ -10,7 +10,8 @@ pub mod Jobs
 pub mod Proposals
 pub mod Readings
 pub mod Handed
+pub mod Writable
+pub mod Packable
 pub mod Trips
 pub mod Examples
 pub mod Near
-pub mod Writable

@@ -1,4 +1,4 @@
--- The round trips and the refusals of `packs`, for the two packs: they hold from any first field.
+-- The promises on writing: what is allowed is written; the round trips and the refusals of `packs` hold from any first field.
 use mathlib.Core.Path.{_≡_, refl, ap, _∙_}
 use mathlib.Core.List.{List}
 use lib.IntN.{ℤ}
@@ -8,11 +8,21 @@ use Rattle.packs.specs.declared.Outcome.{Outcome}
 use Rattle.packs.specs.declared.Outcome.the-variants.{Done, Refused}
 use Rattle.packs.specs.Reading.{Ran}
 use Rattle.packs.specs.Promises.{readAs}
-use Rattle.packs.specs.Writing.{writeFrom}
+use Rattle.packs.specs.Writing.{Written, writeFrom}
 use Rattle.packs.proofs.Trips.{writing-back, reading-back, refusing-alike}
 use Rattle.jobs.specs.Packs.{asSix}
-use Rattle.jobs.specs.Promises.{JobsWrittenBack, JobsReadBack, ProposalsReadBack, JobsRefusedAlike, ProposalsRefusedAlike}
+use Rattle.jobs.specs.Promises.{AllowedJobsWritten, AllowedProposalsWritten, JobsWrittenBack, JobsReadBack, ProposalsReadBack, JobsRefusedAlike, ProposalsRefusedAlike}
 use Rattle.jobs.proofs.Handed.{six-done}
+use Rattle.jobs.proofs.Writable.{job-passes}
+use Rattle.jobs.proofs.Packable.{proposal-packed}
+
+pub allowed-jobs-written : AllowedJobsWritten
+allowed-jobs-written ws L A = job-passes ws L A
+
+pub allowed-proposals-written : AllowedProposalsWritten
+allowed-proposals-written cells links ws P =
+    let w = proposal-packed ws P in
+    (w .0, ap (λ (v : Written). asSix (v .outcome)) (w .1))
 
 pub jobs-written-back : JobsWrittenBack
 jobs-written-back = writing-back Society

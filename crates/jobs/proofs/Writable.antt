@@ -1,4 +1,4 @@
--- Every job that is allowed is written, and so is every proposal of allowed numbers: the walk along the fields stops at none of their words.
+-- Every job that is allowed is written: the walk along the fields stops at none of its words.
 use Prim.Native.Nat.{ℕ, zero, suc, _+_, _-_, _*_, _≤_, _<_}
 use mathlib.Core.Path.{_≡_, refl, sym, ap, subst, _∙_}
 use mathlib.Core.Bool.{Bool, true, false}
@@ -29,7 +29,7 @@ use Rattle.jobs.specs.Words.{wordAt, countAt, cellsOf, linksOf, startOf,
 use Rattle.jobs.specs.Allowed.{Upto, Allowed, CellAllowed, TermAllowed, LinkAllowed, positives, Counted, Laid}
 use Rattle.jobs.specs.Packs.{writeJob}
 
-within-most : (least most x : ℕ) → least ≤ x → x ≤ most → within least most x ≡ true
+pub within-most : (least most x : ℕ) → least ≤ x → x ≤ most → within least most x ≡ true
 within-most least most x l h = rw (le-leb least x l, le-leb x most h)
 
 -- ---- the walk stands at the word k and the field f
@@ -252,9 +252,9 @@ module _ (ws : List ℤ) (L : Laid ws) (A : Allowed (jobOf ws)) where
   unfolding writeFrom
   at-the-end at = rw (le-ltb links links (omega arith))
 
-  job-written : (k : ℕ) × (writeJob ws .outcome ≡ Done k)
+  pub job-passes : (k : ℕ) × (writeJob ws .outcome ≡ Done k)
   unfolding stepOf
-  job-written =
+  job-passes =
       let room = head in
       let some : suc (n - 1) ≡ n = omega (arith, A .cells-some) in
       let c : At (6 + 4 * n) (LinkCount n) =

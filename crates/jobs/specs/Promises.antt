@@ -33,6 +33,16 @@ abbrev pub ReadProposalsProposed : Type 0
 ReadProposalsProposed =
     (cells links : ℕ) (s : List ℕ) (k : ℕ) → readProposal cells links s .outcome ≡ Done k → Proposed cells links (readProposal cells links s .words)
 
+-- ---- what is allowed
+
+-- "Numbers allowed", and the refusals 3, 4 and 5, from the other side: every job whose numbers are allowed is written, and then `JobsReadBack` reads its
+-- pack. So no field asks for more than document 01 does.
+abbrev pub AllowedJobsWritten : Type 0
+AllowedJobsWritten = (ws : List ℤ) → Laid ws → Allowed (jobOf ws) → (n : ℕ) × (writeJob ws .outcome ≡ Done n)
+
+abbrev pub AllowedProposalsWritten : Type 0
+AllowedProposalsWritten = (cells links : ℕ) (ws : List ℤ) → Proposed cells links ws → (n : ℕ) × (writeProposal cells links ws .outcome ≡ Done n)
+
 -- ---- there and back
 
 -- "Writing back a job that was read gives the same bytes": all of them, so a 0 in the order field stays 0.

@@ -28,6 +28,7 @@ use Rattle.jobs.specs.Job.{Job}
 use Rattle.jobs.specs.Words.{wordAt, jobOf}
 use Rattle.jobs.specs.Allowed.{Allowed}
 use Rattle.jobs.specs.Packs.{readJob, readProposal, writeProposal}
+use Rattle.jobs.proofs.Places.{zeros-at}
 use Rattle.jobs.proofs.Readings.{read-jobs-allowed}
 use Rattle.jobs.proofs.Handed.{six-done}
 use Rattle.jobs.proofs.Trips.{proposals-read-back}
@@ -84,11 +85,6 @@ on-read room ws (Refused number place) n h = clash (cc)
 on-read room ws (Done k) n h = record { count = k; read = refl; done = proposed room (jobOf ws) n h }
 
 -- ---- the words that are written
-
-zeros-at : (m i : ℕ) → getD (replicate m (pos 0)) i (pos 0) ≡ pos 0
-zeros-at zero i = refl
-zeros-at (suc m) zero = refl
-zeros-at (suc m) (suc i) = zeros-at m i
 
 module _ (j : Job) (v : List Float) where
   pub count-is : length (wordsOf j v) ≡ j .cells + j .links

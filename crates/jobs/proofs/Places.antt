@@ -1,14 +1,14 @@
--- Where the words of an allowed job stand, and that there are few of them; what a number from 0 to a most tells.
+-- Where the words of an allowed job stand, and that there are few of them; what a number from 0 to a most tells, and what room of zeros holds.
 use Prim.Native.Nat.{ℕ, zero, suc, _+_, _-_, _*_, _≤_, _<_}
 use mathlib.Core.Path.{_≡_, refl, sym, ap, subst, _∙_}
 use mathlib.Core.List.{List}
 use native.Mathlib.Nat as N
 use native.Mathlib.Omega.{arith}
 use lib.IntN.{ℤ, pos, natAbs}
-use lib.ListN.{length}
+use lib.ListN.{length, replicate}
 use lib.Signed.{_≤ℤ_}
 use Rattle.whole.proofs.Order.{pos-nonneg, pos-mono}
-use Rattle.jobs.specs.Words.{countAt, cellsOf, linksOf, startOf, jobOf}
+use Rattle.jobs.specs.Words.{wordAt, countAt, cellsOf, linksOf, startOf, jobOf}
 use Rattle.jobs.specs.Allowed.{Upto, Allowed, Laid}
 
 pub upto-of : {z : ℤ} {x most : ℕ} → z ≡ pos x → x ≤ most → Upto most z
@@ -19,6 +19,11 @@ upto-nonneg {most} {z} h = subst (λ (x : ℤ). pos 0 ≤ℤ x) (sym (h .natural
 
 pub upto-le : {most : ℕ} {z : ℤ} → Upto most z → z ≤ℤ pos most
 upto-le {most} {z} h = subst (λ (x : ℤ). x ≤ℤ pos most) (sym (h .natural)) (pos-mono (h .small))
+
+pub zeros-at : (m i : ℕ) → wordAt (replicate m (pos 0)) i ≡ pos 0
+zeros-at zero i = refl
+zeros-at (suc m) zero = refl
+zeros-at (suc m) (suc i) = zeros-at m i
 
 -- ---- where links start
 

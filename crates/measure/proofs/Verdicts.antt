@@ -17,15 +17,15 @@ use Rattle.numbers.proofs.Clash.{clash}
 use Rattle.whole.specs.Sum.{sum}
 use Rattle.whole.proofs.Fits.{small-fits, gives}
 use Rattle.jobs.specs.Words.{wordAt, cellsOf, linksOf, jobOf}
-use Rattle.jobs.proofs.Places.{cells-inside}
+use Rattle.jobs.proofs.Places.{zeros-at, cells-inside}
 use Rattle.measure.specs.declared.check.Verdict.{Verdict}
 use Rattle.measure.specs.declared.check.Verdict.the-variants.{Accepted, Refused}
 use Rattle.measure.specs.declared.links.Walked.{Walked}
 use Rattle.measure.specs.declared.links.Walked.the-variants.{Broken, Held}
 use Rattle.measure.specs.Gap.{gapOf}
 use Rattle.measure.specs.Check.{lowestFailing, verdictOf}
-use Rattle.measure.specs.Given.{Given, Differs, Measured, Totalling, Boxes, Weighing, Judging}
-use Rattle.measure.specs.Running.{differenceOf, Filled, Added, runOf, walkOf}
+use Rattle.measure.specs.Given.{Given, Differs, Measured, Walking, Totalling, Boxes, Judging}
+use Rattle.measure.specs.Running.{differenceOf, Filled, Added, runOf, walkOf, onWalked}
 use Rattle.measure.proofs.Places.{read, rate-read, tolerance-fits}
 use Rattle.measure.proofs.Table.{difference-is}
 use Rattle.measure.proofs.Losses.{differs, loss-in-64}
@@ -78,34 +78,10 @@ module _ {ws ps : List ℤ} (G : Given ws ps) {n cell : ℕ} (en : n ≡ cellsOf
     boxes = passed-all (inBoxOn ws ps) n (subst (λ (x : ℕ). n ≤ x) (ek ∙ ap (lowestFailing (inBoxOn ws ps)) (sym en)) h);
   }
 
-pub zeros-at : (n i : ℕ) → wordAt (replicate n (pos 0)) i ≡ pos 0
-zeros-at zero i = refl
-zeros-at (suc n) zero = refl
-zeros-at (suc n) (suc i) = zeros-at n i
-
-pub zeros-weighing : {ws ps : List ℤ} {n : ℕ} → Boxes ws ps n → Weighing ws ps n (replicate 120 (pos 0)) (replicate 120 (pos 0))
-zeros-weighing {ws} {ps} {n} B = record {
-  table = B;
-  d-room = few;
-  parts-room = few;
-  zeros = zeros-at 120;
-}
-  where
-    few : n ≤ length (replicate 120 (pos 0))
-    few = rw (length-replicate 120 (pos 0)) (omega (arith, B .n-is, B .given .allowed .cells-few))
-
 -- ---- after the walk
 
 abbrev walkBy : (ws ps : List ℤ) → (broken : Bool) → Walked
 walkBy ws ps broken = if broken then Broken (heldOn ws ps) else Held (runOf (jobOf ws .tolerance) (pos 0) (linkTermOn ws ps) (linksOf ws))
-
-walk-broken-at : (ws ps : List ℤ) (l : ℕ) → walkOn ws ps ≡ Broken l → (ltb (heldOn ws ps) (linksOf ws) ≡ true) × (heldOn ws ps ≡ l)
-unfolding walkOf
-walk-broken-at ws ps l e = go (ltb (heldOn ws ps) (linksOf ws)) refl e
-  where
-    go : (o : Bool) → ltb (heldOn ws ps) (linksOf ws) ≡ o → walkBy ws ps o ≡ Broken l → (ltb (heldOn ws ps) (linksOf ws) ≡ true) × (heldOn ws ps ≡ l)
-    go true q e = (q, cc)
-    go false q e = clash (cc)
 
 walk-held-with : (ws ps : List ℤ) (t : ℤ) → walkOn ws ps ≡ Held t
     → (ltb (heldOn ws ps) (linksOf ws) ≡ false) × (t ≡ runOf (jobOf ws .tolerance) (pos 0) (linkTermOn ws ps) (linksOf ws))
@@ -117,61 +93,71 @@ walk-held-with ws ps t e = go (ltb (heldOn ws ps) (linksOf ws)) refl e
     go true q e = clash (cc)
     go false q e = (q, cc)
 
-module _ {ws ps : List ℤ} {n : ℕ} {d parts : List ℤ} (W : Weighing ws ps n d parts) where
+module _ {ws ps : List ℤ} {n : ℕ} (B : Boxes ws ps n) where
+  pub room-is : n ≤ length (replicate 120 (pos 0))
+  room-is = rw (length-replicate 120 (pos 0)) (omega (arith, B .n-is, B .given .allowed .cells-few))
+
+  pub weigh-walking : Walking ws ps n (replicate 120 (pos 0))
+  weigh-walking = record { given = B .given; n-is = B .n-is; room = room-is; zeros = zeros-at 120 }
+
   in-boxes : ltb (lowestFailing (inBoxOn ws ps) (cellsOf ws)) (cellsOf ws) ≡ false
   in-boxes =
-      ap (λ (x : ℕ). ltb x (cellsOf ws)) (lowest-all (inBoxOn ws ps) (cellsOf ws) (subst (λ (x : ℕ). Passed (inBoxOn ws ps) x) (W .table .n-is) (W .table .boxes)))
+      ap (λ (x : ℕ). ltb x (cellsOf ws)) (lowest-all (inBoxOn ws ps) (cellsOf ws) (subst (λ (x : ℕ). Passed (inBoxOn ws ps) x) (B .n-is) (B .boxes)))
       ∙ le-ltb (cellsOf ws) (cellsOf ws) (N.le-refl (cellsOf ws))
 
+  pub verdict-walked : onWalked (walkOn ws ps) (judgedOn ws ps) ≡ verdictOn ws ps
+  unfolding walkOf
+  verdict-walked = go (ltb (heldOn ws ps) (linksOf ws)) refl
+    where
+      go : (o : Bool) → ltb (heldOn ws ps) (linksOf ws) ≡ o → onWalked (walkBy ws ps o) (judgedOn ws ps) ≡ verdictOn ws ps
+      go true q = verdict-by ws ps false true in-boxes q
+      go false q = verdict-by ws ps false false in-boxes q
+
   module _ {w : Walked} (ew : w ≡ walkOn ws ps) where
-    pub verdict-broken : {l : ℕ} → w ≡ Broken l → Refused 8 l ≡ verdictOn ws ps
-    verdict-broken {l} q =
-        let b = walk-broken-at ws ps l (sym ew ∙ q) in
-        ap (Refused 8) (sym (b .1)) ∙ verdict-by ws ps false true in-boxes (b .0)
+    pub weighed-broken : {l : ℕ} → w ≡ Broken l → Refused 8 l ≡ onWalked (walkOn ws ps) (judgedOn ws ps)
+    weighed-broken q = ap (λ (x : Walked). onWalked x (judgedOn ws ps)) (sym q ∙ ew)
 
-    module _ {t : ℤ} (q : w ≡ Held t) where
-      held : (ltb (heldOn ws ps) (linksOf ws) ≡ false)
-          × (t ≡ runOf (jobOf ws .tolerance) (pos 0) (linkTermOn ws ps) (linksOf ws))
-      held = walk-held-with ws ps t (sym ew ∙ q)
+    pub weighed-held : {a : Verdict} {t : ℤ} → w ≡ Held t → a ≡ judgedOn ws ps → a ≡ onWalked (walkOn ws ps) (judgedOn ws ps)
+    weighed-held q e = e ∙ ap (λ (x : Walked). onWalked x (judgedOn ws ps)) (sym q ∙ ew)
 
-      kept : Passed (holdsOn ws ps) (linksOf ws)
-      kept = passed-all (holdsOn ws ps) (linksOf ws) (ltb-false (heldOn ws ps) (linksOf ws) (held .0))
+  module _ {t : ℤ} (q : walkOn ws ps ≡ Held t) where
+    held : (ltb (heldOn ws ps) (linksOf ws) ≡ false)
+        × (t ≡ runOf (jobOf ws .tolerance) (pos 0) (linkTermOn ws ps) (linksOf ws))
+    held = walk-held-with ws ps t q
 
-      all-held : heldOn ws ps ≡ linksOf ws
-      all-held = lowest-all (holdsOn ws ps) (linksOf ws) kept
+    kept : Passed (holdsOn ws ps) (linksOf ws)
+    kept = passed-all (holdsOn ws ps) (linksOf ws) (ltb-false (heldOn ws ps) (linksOf ws) (held .0))
 
-      t-read : read t ≡ t
-      t-read = gives refl (subst (λ (x : ℤ). SFits w64 x) (sym (held .1)) (run-fits (links-run (W .table .given) (linksOf ws) (N.le-refl (linksOf ws)) kept) (linksOf ws) (N.le-refl (linksOf ws))))
+    all-held : heldOn ws ps ≡ linksOf ws
+    all-held = lowest-all (holdsOn ws ps) (linksOf ws) kept
 
-      pub weigh-judging : {parts′ : List ℤ} → Added (partsOn ws ps (heldOn ws ps)) parts parts′
-          → Judging ws ps n (read t) d parts′
-      weigh-judging {parts′} A = record {
-        table = W .table;
-        kept = kept;
-        total-is = t-read ∙ held .1;
-        d-room = W .d-room;
-        parts-room = subst (λ (x : ℕ). n ≤ x) (sym (A .long)) (W .parts-room);
-        parts-are = λ i h.
-            A .at i ∙ ap₂ (λ (x : ℤ) (k : ℕ). x +ℤ partsOn ws ps k i) (W .zeros i) all-held
-            ∙ +ℤ-idl (partsOn ws ps (linksOf ws) i);
-      }
+    t-read : read t ≡ t
+    t-read = gives refl (subst (λ (x : ℤ). SFits w64 x) (sym (held .1)) (run-fits (links-run (B .given) (linksOf ws) (N.le-refl (linksOf ws)) kept) (linksOf ws) (N.le-refl (linksOf ws))))
 
-      pub verdict-judged : {a : Verdict} → a ≡ judgedOn ws ps → a ≡ verdictOn ws ps
-      verdict-judged u = u ∙ verdict-by ws ps false false in-boxes (held .0)
+    pub weigh-judging : {parts : List ℤ} → Added (partsOn ws ps (heldOn ws ps)) (replicate 120 (pos 0)) parts → Judging ws ps n (read t) parts
+    weigh-judging {parts} A = record {
+      table = B;
+      kept = kept;
+      total-is = t-read ∙ held .1;
+      parts-room = subst (λ (x : ℕ). n ≤ x) (sym (A .long)) room-is;
+      parts-are = λ i h.
+          A .at i ∙ ap₂ (λ (x : ℤ) (k : ℕ). x +ℤ partsOn ws ps k i) (zeros-at 120 i) all-held
+          ∙ +ℤ-idl (partsOn ws ps (linksOf ws) i);
+    }
 
 -- ---- 9, or the loss and the gap
 
-module _ {ws ps : List ℤ} {n : ℕ} {total : ℤ} {d parts : List ℤ} (J : Judging ws ps n total d parts) {z : ℕ} (ez : z ≡ jobOf ws .order) where
-  pub judge-differs : ((i : ℕ) → i < n - z → Differs z i ps) × (n - z ≤ length d)
-  judge-differs = (differs (J .table .given) (J .table .n-is) ez, omega (arith, J .d-room))
+module _ {ws ps : List ℤ} {n : ℕ} {total : ℤ} {parts : List ℤ} (J : Judging ws ps n total parts) {z : ℕ} (ez : z ≡ jobOf ws .order) where
+  pub judge-differs : ((i : ℕ) → i < n - z → Differs z i ps) × (n - z ≤ length (replicate 120 (pos 0)))
+  judge-differs = (differs (J .table .given) (J .table .n-is) ez, omega (arith, room-is (J .table)))
 
-  module _ {d′ : List ℤ} (F : Filled (n - z) (differenceOf z (wordAt ps)) d d′) where
-    pub judge-measured : Measured ws ps n z d′
+  module _ {d : List ℤ} (F : Filled (n - z) (differenceOf z (wordAt ps)) (replicate 120 (pos 0)) d) where
+    pub judge-measured : Measured ws ps n z d
     judge-measured = record {
       given = J .table .given;
       n-is = J .table .n-is;
       z-is = ez;
-      room = omega (arith, J .d-room, F .long);
+      room = omega (arith, room-is (J .table), F .long);
       at = λ i h. F .at i h ∙ ap (λ (z : ℕ). differenceOf z (wordAt ps) i) ez ∙ difference-is (jobOf ws) (wordAt ps) i;
     }
 
@@ -181,7 +167,7 @@ module _ {ws ps : List ℤ} {n : ℕ} {total : ℤ} {d parts : List ℤ} (J : Ju
     total-small : natAbs total ≤ 8000000000000000000
     total-small = subst (λ (x : ℤ). natAbs x ≤ 8000000000000000000) (sym (J .total-is)) (run-small linked (linksOf ws) (N.le-refl (linksOf ws)))
 
-    plain : Totalling ws ps n z d′ parts total
+    plain : Totalling ws ps n z d parts total
     plain = record {
       measured = judge-measured;
       room = J .parts-room;
@@ -194,8 +180,8 @@ module _ {ws ps : List ℤ} {n : ℕ} {total : ℤ} {d parts : List ℤ} (J : Ju
     total-read : read total ≡ total
     total-read = gives refl (small-fits total total-small (lit< tt))
 
-    pub judge-totalling : Totalling ws ps n z d′ parts (read total)
-    judge-totalling = subst (λ (x : ℤ). Totalling ws ps n z d′ parts x) (sym total-read) plain
+    pub judge-totalling : Totalling ws ps n z d parts (read total)
+    judge-totalling = subst (λ (x : ℤ). Totalling ws ps n z d parts x) (sym total-read) plain
 
     -- with the gap's total and the tolerance that the code has
     module _ {g t : ℤ} (eg : g ≡ runOf (jobOf ws .tolerance) (read total) (cellTermOn ws ps) (cellsOf ws))

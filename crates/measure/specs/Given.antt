@@ -148,18 +148,10 @@ pub record Boxes (ws ps : List ℤ) (n : ℕ) : Type 0 where
   pub n-is : n ≡ cellsOf ws
   pub boxes : (i : ℕ) → i < n → inBoxOn ws ps i ≡ true
 
--- The same, with room for n differences and for n link parts, which are all 0.
-pub record Weighing (ws ps : List ℤ) (n : ℕ) (d parts : List ℤ) : Type 0 where
-  pub table : Boxes ws ps n
-  pub d-room : n ≤ length d
-  pub parts-room : n ≤ length parts
-  pub zeros : (i : ℕ) → wordAt parts i ≡ pos 0
-
 -- A table that meets its boxes and links, with its link parts and the total of its link terms.
-pub record Judging (ws ps : List ℤ) (n : ℕ) (total : ℤ) (d parts : List ℤ) : Type 0 where
+pub record Judging (ws ps : List ℤ) (n : ℕ) (total : ℤ) (parts : List ℤ) : Type 0 where
   pub table : Boxes ws ps n
   pub kept : (l : ℕ) → l < linksOf ws → holdsOn ws ps l ≡ true
   pub total-is : total ≡ runOf (jobOf ws .tolerance) (pos 0) (linkTermOn ws ps) (linksOf ws)
-  pub d-room : n ≤ length d
   pub parts-room : n ≤ length parts
   pub parts-are : (i : ℕ) → i < n → wordAt parts i ≡ linkPartOn ws ps i

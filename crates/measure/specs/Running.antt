@@ -12,6 +12,8 @@ use Rattle.whole.specs.Sum.{sum, coefficientOf}
 use Rattle.certificate.specs.Differences.{earlier}
 use Rattle.jobs.specs.Job.{Job}
 use Rattle.jobs.specs.Words.{wordAt, countAt}
+use Rattle.measure.specs.declared.check.Verdict.{Verdict}
+use Rattle.measure.specs.declared.check.Verdict.the-variants.{Refused}
 use Rattle.measure.specs.declared.links.Walked.{Walked}
 use Rattle.measure.specs.declared.links.Walked.the-variants.{Broken, Held}
 use Rattle.rows.specs.Rows.{rowOf}
@@ -64,6 +66,11 @@ heldLinks j v = lowestFailing (holds j v) (j .links)
 abbrev pub partsOf : Job → (y : ℕ → ℤ) → (k i : ℕ) → ℤ
 partsOf j y k i = sum k (λ l. y l *ℤ linkCoefficient j l i)
 
--- .. and what a walk over the links answers.
+-- .. what a walk over the links answers ..
 unfoldable pub walkOf : Job → (v y : ℕ → ℤ) → Walked
 walkOf j v y = if ltb (heldLinks j v) (j .links) then Broken (heldLinks j v) else Held (runOf (j .tolerance) (pos 0) (linkTermOf j v y) (j .links))
+
+-- .. and the verdict that the answer leads to: 8 at the lowest broken link, or the one on a table that keeps its links.
+abbrev pub onWalked : Walked → (kept : Verdict) → Verdict
+onWalked (Broken l) kept = Refused 8 l
+onWalked (Held total) kept = kept

@@ -17,8 +17,9 @@ ghost use Rattle.jobs.specs.Packs.{readJob, readProposal};
 ghost use Rattle.jobs.specs.Words.{cellsOf, linksOf, jobOf};
 ghost use Rattle.jobs.specs.Allowed.{Allowed, Laid};
 ghost use Rattle.measure.specs.Check.{proposalVerdict, proposalWords, checkOf};
-ghost use Rattle.measure.specs.Given.{Given, Weighing, Boxes, Judging};
-ghost use Rattle.measure.specs.OnWords.{judgedOn, verdictOn};
+ghost use Rattle.measure.specs.Given.{Given, Boxes, Judging};
+ghost use Rattle.measure.specs.Running.{onWalked};
+ghost use Rattle.measure.specs.OnWords.{judgedOn, verdictOn, walkOn};
 
 // What the check answers: the table is accepted with its loss and gap, or refused with a number and a place.
 pub enum Verdict {
@@ -27,23 +28,17 @@ pub enum Verdict {
 }
 
 // The verdict on a table that meets its boxes and links, from its link parts and the total of its link terms.
-fn judged(
-    words: &[i64],
-    proposal: &[i64],
-    n: usize,
-    total: i64,
-    d: &mut [i64],
-    parts: &[i64],
-) -> Verdict
-    requires { ⌜ Judging (now words) (now proposal) n total (now d) (now parts) ⌝ }
+fn judged(words: &[i64], proposal: &[i64], n: usize, total: i64, parts: &[i64]) -> Verdict
+    requires { ⌜ Judging (now words) (now proposal) n total (now parts) ⌝ }
     ensures { λ a. ⌜ a ≡ judgedOn (now (words .entry)) (now (proposal .entry)) ⌝ }
 {
+    let mut d = [0i64; 120];
     let z = words::order_of(words);
-    loss::differences(proposal, z, n - z, d);
-    let g = gap::total_of(words, proposal, n, z, d, parts, total);
+    loss::differences(proposal, z, n - z, &mut d);
+    let g = gap::total_of(words, proposal, n, z, &d, parts, total);
     let t = words::tolerance_of(words);
     if g <= t {
-        let f = loss::loss(words, proposal, n, z, d);
+        let f = loss::loss(words, proposal, n, z, &d);
         return Verdict::Accepted { loss: f, gap: g };
     }
     Verdict::Refused {
@@ -52,29 +47,20 @@ fn judged(
     }
 }
 
-// The verdict on a table in its boxes; d and parts are lent for the differences and the link parts.
-fn weighed(words: &[i64], proposal: &[i64], n: usize, d: &mut [i64], parts: &mut [i64]) -> Verdict
-    requires { ⌜ Weighing (now words) (now proposal) n (now d) (now parts) ⌝ }
-    ensures { λ a. ⌜ a ≡ verdictOn (now (words .entry)) (now (proposal .entry)) ⌝ }
+// The verdict on a table in its boxes.
+fn weighed(words: &[i64], proposal: &[i64], n: usize) -> Verdict
+    requires { ⌜ Boxes (now words) (now proposal) n ⌝ }
+    ensures { λ a. ⌜ a ≡ onWalked (walkOn (now (words .entry)) (now (proposal .entry))) (judgedOn (now (words .entry)) (now (proposal .entry))) ⌝ }
 {
-    let walked = links::walk(words, proposal, n, parts);
+    let mut parts = [0i64; 120];
+    let walked = links::walk(words, proposal, n, &mut parts);
     match walked {
         Walked::Broken(link) => Verdict::Refused {
             number: 8,
             place: link,
         },
-        Walked::Held(total) => judged(words, proposal, n, total, d, parts),
+        Walked::Held(total) => judged(words, proposal, n, total, &parts),
     }
-}
-
-// The same, with room of its own.
-fn weighed_alone(words: &[i64], proposal: &[i64], n: usize) -> Verdict
-    requires { ⌜ Boxes (now words) (now proposal) n ⌝ }
-    ensures { λ a. ⌜ a ≡ verdictOn (now (words .entry)) (now (proposal .entry)) ⌝ }
-{
-    let mut d = [0i64; 120];
-    let mut parts = [0i64; 120];
-    weighed(words, proposal, n, &mut d, &mut parts)
 }
 
 // The verdict on a proposal's words, n values and then the multipliers, against a job's words.
@@ -90,7 +76,7 @@ pub fn check_words(words: &[i64], proposal: &[i64]) -> Verdict
             place: cell,
         };
     }
-    weighed_alone(words, proposal, n)
+    weighed(words, proposal, n)
 }
 
 // The verdict on the first k words.

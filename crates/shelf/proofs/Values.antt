@@ -11,7 +11,7 @@ use mir.Syntax.{w64}
 use mir.Val.{toZ, ofZ}
 use Rattle.whole.proofs.Fits.{small-fits, gives}
 use Rattle.jobs.specs.Words.{wordAt}
-use Rattle.measure.proofs.Verdicts.{zeros-at}
+use Rattle.jobs.proofs.Places.{zeros-at}
 use Rattle.shelf.specs.Given.{firstValues}
 
 -- ---- sizes

@@ -10,33 +10,37 @@ order-of-requires c κs = search needs
 sub-differences : tie.Need-sub-differences
 sub-differences c = search needs
 
+slice-aggregate-differences : tie.Need-slice-aggregate-differences
+slice-aggregate-differences c = search needs
+
 differences-requires : tie.Need-differences-requires
 differences-requires c κs = judge-differs (c .before .before .pre) (c .before .order-of .ensures)
 
+slice-aggregate-total-of : tie.Need-slice-aggregate-total-of
+slice-aggregate-total-of c = search needs
+
 total-of-requires : tie.Need-total-of-requires
-total-of-requires c κs = judge-totalling (c .before .before .before .before .before .pre) (c .before .before .before .before .order-of .ensures) (c .before .before .differences .ensures)
+total-of-requires c κs = let t = c .before .before in
+    judge-totalling (t .before .before .before .pre) (t .before .before .order-of .ensures) (t .differences .ensures)
 
 tolerance-of-requires : tie.Need-tolerance-of-requires
 tolerance-of-requires c κs = search needs
 
-loss-requires : tie.Need-loss-requires
-loss-requires c κs = let t = c .before .before .before .before .before in
-    judge-measured (t .before .before .before .before .pre) (t .before .before .before .order-of .ensures) (t .before .differences .ensures)
+slice-aggregate-loss : tie.Need-slice-aggregate-loss
+slice-aggregate-loss c = search needs
 
-same-length : tie.Need-same-length
-same-length c = search needs
+loss-requires : tie.Need-loss-requires
+loss-requires c κs = let t = c .before .before .before .before .before .before in
+    judge-measured (t .before .before .before .pre) (t .before .before .order-of .ensures) (t .differences .ensures)
 
 returns : tie.Need-returns
-returns c = let t = c .before .before .before .before .before .before in
-    judged-accepts (t .before .before .before .before .pre) (t .before .before .before .order-of .ensures) (t .before .differences .ensures) (c .before .before .before .before .total-of .ensures) (c .before .before .before .tolerance-of .ensures)
+returns c = let t = c .before .before .before .before .before .before .before in
+    judged-accepts (t .before .before .before .pre) (t .before .before .order-of .ensures) (t .differences .ensures) (c .before .before .before .before .total-of .ensures) (c .before .before .before .tolerance-of .ensures)
     (c .loss .ensures) (c .before .before .if1 .taken)
 
-same-length-2 : tie.Need-same-length-2
-same-length-2 c = search needs
-
 returns-2 : tie.Need-returns-2
-returns-2 c = let t = c .before .before .before .before in
-    judged-refuses (t .before .before .before .before .pre) (t .before .before .before .order-of .ensures) (t .before .differences .ensures) (c .before .before .total-of .ensures) (c .before .tolerance-of .ensures)
+returns-2 c = let t = c .before .before .before .before .before in
+    judged-refuses (t .before .before .before .pre) (t .before .before .order-of .ensures) (t .differences .ensures) (c .before .before .total-of .ensures) (c .before .tolerance-of .ensures)
     (c .if1 .left)
 
 pub judged-spec : {M : Type 1} → statement M
@@ -45,11 +49,12 @@ judged-spec =
     (tie.spec
     order-of-requires
     sub-differences
+    slice-aggregate-differences
     differences-requires
+    slice-aggregate-total-of
     total-of-requires
     tolerance-of-requires
+    slice-aggregate-loss
     loss-requires
-    same-length
     returns
-    same-length-2
     returns-2)

@@ -49,6 +49,14 @@
  *                    for each link the count of terms, its terms (cell, coefficient), the bound
  *     proposal pack  n values, then one multiplier for each link
  *
+ * Nothing follows in either. What is allowed, and else refused with 2 or 6:
+ *
+ *     society 0..7    job 0..4,294,967,295    n 2..120    order field 0..4, less than n; 0 means the house order 2, which is less than n too
+ *     k 1..1,000    T 0..10^15    u, floor, ceiling, value 0..1,000,000    w 0..1,000    multiplier 0..10^9
+ *     links 0..160    terms of a link 1..4    cell 0..n-1    coefficient -10..10    bound -10^9..10^9
+ *
+ * The cells of a link rise strictly and no coefficient is 0 (5). A u may lie outside its box, and a floor may equal its ceiling.
+ *
  * WHAT NOBODY CHECKS FOR A C CALLER
  *
  *   - No pointer is null, even where the count is 0: pass any valid address.

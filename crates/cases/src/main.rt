@@ -12,6 +12,7 @@ use measure::check::check;
 use numbers::zigzag::Sign;
 use numbers::zigzag::sign_of;
 use packs::Outcome;
+ghost use mathlib.Core.Path.{_≡_};
 ghost use Prim.Native.Nat.{_≤_, _<_};
 ghost use lib.ListN.{length};
 
@@ -94,7 +95,7 @@ fn print_verdict(job: &[u8], proposal: &[u8]) {
 }
 
 fn wide(x: u8) -> usize
-    ensures { λ r. ⌜ r < 256 ⌝ }
+    ensures { λ r. ⌜ (r ≡ x) × (r < 256) ⌝ }
 {
     x as usize
 }

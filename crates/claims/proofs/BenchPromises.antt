@@ -14,11 +14,12 @@ use Rattle.shelf.specs.declared.Answer.{Answer}
 use Rattle.shelf.specs.Shelf.{base}
 use Rattle.shelf.specs.Calls.{keep, fetch, forget, clear, after, said}
 use Rattle.house.specs.Proposal.{proposeOf}
-use Rattle.bench.specs.Answers.{codeOf, hasFour, Says}
+use Rattle.bench.specs.Answers.{codeOf, answerWords, hasFour, Says}
 use Rattle.bench.proofs.Small.{Small, check-small}
 use Rattle.bench.proofs.Outcomes.{propose-small, read-small, write-small}
 use Rattle.bench.proofs.Shelves.{said-small}
-use Rattle.claims.specs.BenchPromises.{Among, Untouched, Determined, Numbered, RefusalsKept, RestsKept}
+use Rattle.claims.specs.BenchPromises.{Among, Untouched, Determined, Numbered, RefusalsKept, RestsKept, AcceptedTold}
+use Rattle.claims.proofs.Told.{told-of, kept-told}
 use Rattle.claims.proofs.Unwritten.{Kept, verdict-kept, write-kept, read-kept, propose-kept, shelf-kept, fetch-kept}
 use Rattle.claims.proofs.CallNumbers.{check-number, propose-number, read-number, write-number, keep-number, fetch-number, forget-number, clear-number}
 use Rattle.claims.proofs.Beyond.{beyond-made, beyond-values, write-within, read-within, propose-within, fetch-within}
@@ -75,6 +76,17 @@ module _ {A : Type 0} {a : Answer} (s : Small a) {answer : List ℕ} {before aft
             told = says .answers ∙ rw (e, is, at, k .1, k .2);
           }
       go false e = record { lent = says .leaves ∙ rw e; told = says .answers ∙ rw e }
+
+  told-by : r % 32 ≡ 0 → (a .number ≡ 0) × (p ≡ answerWords a)
+  told-by z = go (hasFour answer) refl
+    where
+      go : (t : Bool) → hasFour answer ≡ t → (a .number ≡ 0) × (p ≡ answerWords a)
+      go true e =
+          let same : r ≡ codeOf a = says .returns ∙ rw e in
+          (sym (number-of a s) ∙ ap (λ (c : ℕ). c % 32) (sym same) ∙ z, says .answers ∙ rw e)
+      go false e =
+          let same : r ≡ 141 = says .returns ∙ rw e in
+          absurd (omega (arith, same))
 
   rest-by : ((m : ℕ) → a .place ≡ m → drop m after ≡ drop m before) → r % 32 ≡ 0 → drop (r / 32) x ≡ drop (r / 32) before
   rest-by beyond z = go (hasFour answer) refl
@@ -133,4 +145,14 @@ rests-kept = record {
       let call = fetch society job (length out) in
       rest-by (said-small shelf call) says
       (λ m e. beyond-values (said base shelf call .values) out m (omega (arith, e, fetch-within shelf society job (length out)))) z;
+}
+
+pub accepted-told : AcceptedTold
+accepted-told = record {
+  check = λ job proposal answer r a says z.
+      let t = told-by (check-small job proposal) says z in
+      told-of job proposal a (checkOf job proposal) refl (t .0) (t .1);
+  keep = λ job proposal shelf answer r a x says z.
+      let t = told-by (said-small shelf (keep job proposal)) says z in
+      kept-told job proposal shelf a (t .0) (t .1);
 }

@@ -1,28 +1,17 @@
--- A fetched table was accepted: every table of a list came from a keep that was sent and accepted, and F and G of an accepted check are not negative.
+-- A fetched table was accepted: every table of a list came from a keep that was sent and accepted.
 use Prim.Native.Nat.{ℕ, zero, suc, _<_}
-use mathlib.Core.Path.{_≡_, refl, sym, ap, ap₂, _∙_, subst}
+use mathlib.Core.Path.{_≡_, refl, sym, ap, _∙_, subst}
 use mathlib.Core.Logic.{inl, inr}
-use mathlib.Core.Bool.{Bool, true, false, cond, true≢false}
+use mathlib.Core.Bool.{Bool, true, false, cond}
 use mathlib.Core.List.{List, [], _∷_, map}
 use native.Mathlib.Omega.{arith}
 use borrow.Author.Tests.{eqb-true}
 use lib.Dec.{eqb, leb}
-use lib.IntN.{ℤ, pos, negsuc, natAbs, _-ℤ_, _*ℤ_}
+use lib.IntN.{pos, natAbs}
 use lib.ListN.{length, take, getD}
-use lib.Signed.{_≤ℤ_}
-use Rattle.whole.proofs.Order.{+ℤ-nonneg, *ℤ-nonneg, sq-nonneg}
-use Rattle.whole.proofs.Sums.{sum-nonneg}
-use Rattle.certificate.specs.Differences.{difference}
-use Rattle.jobs.specs.Job.{Job}
-use Rattle.jobs.specs.Allowed.{Allowed}
-use Rattle.jobs.proofs.Readings.{read-jobs-allowed}
-use Rattle.jobs.proofs.Places.{upto-nonneg}
-use Rattle.measure.specs.declared.check.Verdict.{Verdict}
-use Rattle.measure.specs.declared.check.Verdict.the-variants.{Accepted, Refused}
-use Rattle.measure.specs.Loss.{familyOf, lossOf}
 use Rattle.measure.specs.Check.{checkOf}
 use Rattle.shelf.specs.Slots.{Reply, refusal}
-use Rattle.shelf.specs.Checked.{Checked, checkedOf, accepted, answerOf, valuesOf}
+use Rattle.shelf.specs.Checked.{Checked, checkedOf, accepted, valuesOf}
 use Rattle.shelf.specs.Shelf.{Layout, cleared}
 use Rattle.shelf.specs.Calls.{Call, keep, fetch, forget, clear, said}
 use Rattle.shelf.proofs.Spans.{Lawful}
@@ -32,9 +21,7 @@ use Rattle.claims.specs.Read.{jobIn, proposalIn, valuesIn}
 use Rattle.claims.specs.Lists.{Table, tableFrom, isOf, handed, fetched, kept, removed, Lists, onList, nothing, keptLists, listsAfter}
 use Rattle.claims.specs.LastKept.{shelfAfter, listsAfterAll, held, given}
 use Rattle.claims.specs.Fetched.{Sent, WasAccepted}
-use Rattle.claims.specs.Verdicts.{Acceptable}
-use Rattle.claims.proofs.Accepted.{accepted-exactly}
-use Rattle.claims.proofs.Terms.{no-term-negative}
+use Rattle.claims.proofs.Told.{verdicted}
 use Rattle.claims.proofs.Best.{best}
 use Rattle.claims.proofs.Tables.{All, all-kept, all-removed}
 use Rattle.claims.proofs.EightLists.{sim-said, sim-cleared}
@@ -111,32 +98,6 @@ fetched-gives P job room (t ∷ ts) a n = go (isOf job t) refl n (fetched-gives 
         → Gives P job (cond b (handed room t) (fetched job room ts))
     go true e m k = handed-gives P job room t (a .0) (eqb-true (t .job) job e) m
     go false e m k = k m
-
--- ---- F and G of an accepted check are not negative
-natural : (z : ℤ) → pos 0 ≤ℤ z → z ≡ pos (natAbs z)
-natural (pos n) h = refl
-natural (negsuc n) h = absurd (h .le)
-
-loss-not-negative : (j : Job) → Allowed j → (v : ℕ → ℤ) → pos 0 ≤ℤ lossOf j v
-unfolding lossOf
-loss-not-negative j A v =
-    +ℤ-nonneg (sum-nonneg (j .cells) (λ i h. *ℤ-nonneg (upto-nonneg (A .cell i h .weight)) (sq-nonneg (v i -ℤ j .crude i))))
-    (*ℤ-nonneg (upto-nonneg (A .constant)) (sum-nonneg (familyOf j .count) (λ i h. sq-nonneg (difference (familyOf j) v i))))
-
-record Verdicted (job proposal : List ℕ) (v : Verdict) : Type 0 where
-  as-answered : checkOf job proposal ≡ Accepted (pos (answerOf v .loss)) (pos (answerOf v .gap))
-
-verdicted : (job proposal : List ℕ) (v : Verdict) → checkOf job proposal ≡ v → accepted v ≡ true → Verdicted job proposal v
-verdicted job proposal (Refused number place) e y = absurd (true≢false (sym y))
-verdicted job proposal (Accepted F G) e y =
-    let a : Acceptable job proposal F G = accepted-exactly job proposal F G .0 e in
-    let B = a .both-read in
-    let f = loss-not-negative (jobIn job) (read-jobs-allowed job (B .job-reads .0) (B .job-reads .1)) (valuesIn job proposal) in
-    let g = no-term-negative job proposal B (a .values-in-boxes) (a .links-hold) .gap in
-    record {
-      as-answered =
-          e ∙ ap₂ {C = Verdict} Accepted (natural F (subst (λ (z : ℤ). pos 0 ≤ℤ z) (sym (a .loss-is)) f)) (natural G (subst (λ (z : ℤ). pos 0 ≤ℤ z) (sym (a .gap-is)) g));
-    }
 
 -- ---- what stands behind a table
 take-getD : (n i : ℕ) (xs : List ℕ) → i < n → getD (take n xs) i 0 ≡ getD xs i 0

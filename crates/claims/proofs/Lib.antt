@@ -6,6 +6,7 @@ pub mod Verdict
 pub mod Accepted
 pub mod Terms
 pub mod Best
+pub mod Told
 pub mod Worked
 pub mod Promises
 pub mod Tables

@@ -1,8 +1,9 @@
 -- The promises, each a law whose type is its statement in specs/Promises.antt.
-use Rattle.claims.specs.Promises.{AcceptedExactly, JobRefusedExactly, ProposalRefusedExactly, OutsideExactly, BrokenExactly, AboveExactly, NoOtherRefusal, NoTermNegative, Best, AcceptedMeets, WorkedTables}
+use Rattle.claims.specs.Promises.{AcceptedExactly, JobRefusedExactly, ProposalRefusedExactly, OutsideExactly, BrokenExactly, AboveExactly, NoOtherRefusal, NoTermNegative, LossAtMost, Best, AcceptedMeets, WorkedTables}
 use Rattle.claims.proofs.Accepted as Accepted
 use Rattle.claims.proofs.Terms as Terms
 use Rattle.claims.proofs.Best as Best
+use Rattle.claims.proofs.Told as Told
 use Rattle.claims.proofs.Worked as Worked
 
 pub accepted-exactly : AcceptedExactly
@@ -28,6 +29,9 @@ no-other-refusal = Accepted.no-other-refusal
 
 pub no-term-negative : NoTermNegative
 no-term-negative = Terms.no-term-negative
+
+pub loss-at-most : LossAtMost
+loss-at-most = Told.loss-most
 
 pub best : Best
 best = Best.best

@@ -4,12 +4,16 @@ use Prim.Native.Nat.{ℕ, _/_, _%_, _≤_}
 use mathlib.Core.Path.{_≡_}
 use mathlib.Core.Logic.{_⊎_}
 use mathlib.Core.List.{List, [], _∷_}
-use lib.IntN.{ℤ}
+use lib.IntN.{ℤ, pos}
 use lib.ListN.{drop}
 use Rattle.numbers.specs.Choice.{if_then_else_}
+use Rattle.measure.specs.declared.check.Verdict.the-variants.{Accepted}
+use Rattle.measure.specs.Check.{checkOf}
 use Rattle.shelf.specs.Calls.{Call, keep, forget, clear}
 use Rattle.bench.specs.Answers.{hasFour}
 use Rattle.bench.specs.Calls.{CheckSays, ProposeSays, ReadSays, WriteSays, ShelfSays, FetchSays}
+use Rattle.claims.specs.Read.{jobIn}
+use Rattle.claims.specs.Meets.{NoneBelow}
 
 -- What a call may claim of the number that it returns, of its answer slice, and of the slice that it writes to.
 abbrev pub Claim : Type 0 → Type 1
@@ -85,3 +89,18 @@ RestKept A answer before claim = (r : ℕ) (a : List ℕ) (x : List A) → claim
 
 abbrev pub RestsKept : Type 0
 RestsKept = OfEachOutput RestKept
+
+-- ---- what is told of an accepted table
+
+-- The words of an answer are 0, 0, F and G: the check accepts with just these, and no table that meets the job has a loss below F - G.
+pub record ToldBest (job proposal answered : List ℕ) : Type 0 where
+  pub F : ℕ
+  pub G : ℕ
+  pub words : answered ≡ 0 ∷ 0 ∷ F ∷ G ∷ []
+  pub accepted : checkOf job proposal ≡ Accepted (pos F) (pos G)
+  pub best : NoneBelow (jobIn job) (pos F) (pos G)
+
+-- So it is wherever check or keep returns the number 0, on any shelf.
+pub record AcceptedTold : Type 0 where
+  pub check : (job proposal answer : List ℕ) (r : ℕ) (a : List ℕ) → CheckSays job proposal answer r a → r % 32 ≡ 0 → ToldBest job proposal a
+  pub keep : (job proposal shelf answer : List ℕ) (r : ℕ) (a x : List ℕ) → ShelfSays (keep job proposal) shelf answer r a x → r % 32 ≡ 0 → ToldBest job proposal a

@@ -3,15 +3,14 @@ use Prim.Native.Nat.{ℕ, _<_}
 use mathlib.Core.Path.{_≡_}
 use mathlib.Core.Logic.{_⊎_}
 use mathlib.Core.List.{List, [], _∷_}
-use lib.IntN.{ℤ, pos, _-ℤ_, _*ℤ_}
+use lib.IntN.{pos}
 use lib.ListN.{length, getD}
-use lib.Signed.{_≤ℤ_}
 use Rattle.measure.specs.declared.check.Verdict.the-variants.{Accepted}
 use Rattle.measure.specs.Check.{checkOf}
 use Rattle.shelf.specs.Slots.{Reply}
 use Rattle.shelf.specs.Calls.{Call, keep}
 use Rattle.claims.specs.Read.{jobIn, valuesIn}
-use Rattle.claims.specs.Meets.{Meets, scaledLossOf}
+use Rattle.claims.specs.Meets.{NoneBelow}
 
 -- the call is one of those
 abbrev pub Sent : Call → List Call → Type 0
@@ -29,5 +28,4 @@ pub record WasAccepted (calls : List Call) (society number : ℕ) (r : Reply) : 
   pub accepted : checkOf job proposal ≡ Accepted (pos (r .answer .loss)) (pos (r .answer .gap))
   pub count : length (r .values) ≡ jobIn job .cells
   pub values : (i : ℕ) → i < jobIn job .cells → pos (getD (r .values) i 0) ≡ valuesIn job proposal i
-  pub best : (d : ℤ) (X : ℕ → ℤ) → pos 1 ≤ℤ d → Meets (jobIn job) d X
-      → (d *ℤ d *ℤ (pos (r .answer .loss) -ℤ pos (r .answer .gap))) ≤ℤ scaledLossOf (jobIn job) d X
+  pub best : NoneBelow (jobIn job) (pos (r .answer .loss)) (pos (r .answer .gap))

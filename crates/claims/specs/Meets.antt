@@ -33,6 +33,10 @@ pub record Meets (j : Job) (d : ℤ) (X : ℕ → ℤ) : Type 0 where
 unfoldable pub scaledLossOf : Job → (d : ℤ) → (X : ℕ → ℤ) → ℤ
 scaledLossOf j d X = sum (j .cells) (λ i. j .weight i *ℤ squared (X i -ℤ d *ℤ j .crude i)) +ℤ j .constant *ℤ roughness (familyOf j) X
 
+-- "every table that meets the job, fractional ones included, has a loss of at least F - G": d²(F - G) is at most its scaled loss.
+abbrev pub NoneBelow : Job → (F G : ℤ) → Type 0
+NoneBelow j F G = (d : ℤ) (X : ℕ → ℤ) → pos 1 ≤ℤ d → Meets j d X → (d *ℤ d *ℤ (F -ℤ G)) ≤ℤ scaledLossOf j d X
+
 -- "no term is negative": no cell term, no link term, and so not the gap; and no running total, of the first m cells and the first q links, is above it.
 pub record NoneNegative (j : Job) (v y : ℕ → ℤ) : Type 0 where
   pub cell-terms : (i : ℕ) → i < j .cells → pos 0 ≤ℤ cellTermOf j v y i

@@ -4,15 +4,15 @@ use Prim.Native.Nat.{ℕ, _≤_}
 use mathlib.Core.Path.{_≡_}
 use mathlib.Core.Logic.{_↔_}
 use mathlib.Core.List.{List, [], _∷_, map}
-use lib.IntN.{ℤ, pos, _-ℤ_, _*ℤ_}
+use lib.IntN.{ℤ, pos, _*ℤ_}
 use lib.Signed.{_≤ℤ_}
 use Rattle.packs.specs.declared.Outcome.the-variants.{Refused as Refuses}
 use Rattle.jobs.specs.Words.{wordAt}
 use Rattle.jobs.specs.Packs.{readJob}
 use Rattle.measure.specs.declared.check.Verdict.the-variants.{Accepted, Refused}
 use Rattle.measure.specs.Check.{checkOf}
-use Rattle.claims.specs.Read.{jobIn, proposalIn, valuesIn, multipliersIn, Reads, BothRead}
-use Rattle.claims.specs.Meets.{EveryInBox, EveryLinkHolds, Meets, scaledLossOf, NoneNegative}
+use Rattle.claims.specs.Read.{jobIn, proposalIn, valuesIn, multipliersIn, lossIn, Reads, BothRead}
+use Rattle.claims.specs.Meets.{EveryInBox, EveryLinkHolds, Meets, scaledLossOf, NoneBelow, NoneNegative}
 use Rattle.claims.specs.Verdicts.{Acceptable, Outside, Broken, Above}
 use Rattle.claims.specs.Worked.{WorkedTable, plain, starred}
 
@@ -51,7 +51,7 @@ AboveExactly = (job proposal : List ℕ) (place : ℕ) → (checkOf job proposal
 abbrev pub NoOtherRefusal : Type 0
 NoOtherRefusal = (job proposal : List ℕ) (number place : ℕ) → checkOf job proposal ≡ Refused number place → (1 ≤ number) × (number ≤ 9)
 
--- ---- no term is negative
+-- ---- no term is negative, and the loss is small
 
 -- For a table that meets bounds and links no term is negative and no running total is above the gap: once such a total passes the tolerance, the
 -- answer is settled.
@@ -61,14 +61,15 @@ NoTermNegative =
     → EveryInBox (jobIn job) (valuesIn job proposal) → EveryLinkHolds (jobIn job) (valuesIn job proposal)
     → NoneNegative (jobIn job) (valuesIn job proposal) (multipliersIn job proposal)
 
+-- "The loss is at most 7.6·10^18."
+abbrev pub LossAtMost : Type 0
+LossAtMost = (job proposal : List ℕ) → BothRead job proposal → (pos 0 ≤ℤ lossIn job proposal) × (lossIn job proposal ≤ℤ pos 7600000000000000000)
+
 -- ---- demand 3
 
--- Where the check accepts with F and G, no table that meets the job, fractions included, has a loss below F - G: d²(F - G) is at most its scaled loss.
+-- Where the check accepts with F and G, no table that meets the job, fractions included, has a loss below F - G.
 abbrev pub Best : Type 0
-Best =
-    (job proposal : List ℕ) (F G : ℤ) → checkOf job proposal ≡ Accepted F G
-    → (d : ℤ) (X : ℕ → ℤ) → pos 1 ≤ℤ d → Meets (jobIn job) d X
-    → (d *ℤ d *ℤ (F -ℤ G)) ≤ℤ scaledLossOf (jobIn job) d X
+Best = (job proposal : List ℕ) (F G : ℤ) → checkOf job proposal ≡ Accepted F G → NoneBelow (jobIn job) F G
 
 -- The accepted table, written with any d, is itself such a table and has the scaled loss d²F: so F is within G of the least.
 abbrev pub AcceptedMeets : Type 0

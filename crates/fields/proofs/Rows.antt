@@ -3,8 +3,8 @@ use Prim.Native.Nat.{ℕ, _^_, _≤_, _<_}
 use mathlib.Core.Path.{_≡_, refl}
 use mathlib.Core.Bool.{Bool, true, false, _&&_}
 use native.Mathlib.Omega.{arith}
-use borrow.Author.Tests.{leb-true}
-use lib.Dec.{leb}
+use borrow.Author.Tests.{leb-true, ltb-true, ltb-false}
+use lib.Dec.{leb, ltb}
 use Rattle.numbers.proofs.Clash.{clash}
 use Rattle.fields.specs.declared.Field.{Field}
 use Rattle.fields.specs.declared.Field.the-variants.{Society, Job, Count, Order, Constant, Tolerance, Crude, Weight, Floor, Ceiling, LinkCount, TermCount, Cell, Coefficient, Bound, Value, Multiplier, End}
@@ -30,28 +30,6 @@ within-both least most x e = go (leb least x) refl e
     go : (o : Bool) → leb least x ≡ o → (o && leb x most) ≡ true → (least ≤ x) × (x ≤ most)
     go true q e = (leb-true least x q, leb-true x most e)
     go false q e = clash (cc)
-
--- a signed number that is allowed is small in its stored form
-pub signed-small : (f : Field) (x : ℕ) (g : Field) → signedAt f ≡ true → stepOf f x ≡ Next g → x < 2 ^ 63
-unfolding stepOf
-signed-small Society x g t e = clash (cc)
-signed-small Job x g t e = clash (cc)
-signed-small Count x g t e = clash (cc)
-signed-small (Order a) x g t e = clash (cc)
-signed-small (Constant a b) x g t e = clash (cc)
-signed-small (Tolerance a b) x g t e = clash (cc)
-signed-small (Crude a) x g t e = clash (cc)
-signed-small (Weight a) x g t e = clash (cc)
-signed-small (Floor a) x g t e = clash (cc)
-signed-small (Ceiling a b) x g t e = clash (cc)
-signed-small (LinkCount a) x g t e = clash (cc)
-signed-small (TermCount a) x g t e = clash (cc)
-signed-small (Cell a) x g t e = clash (cc)
-signed-small (Coefficient a b) x g t e = omega (arith, within-both 0 20 x (kept e .ok))
-signed-small (Bound a) x g t e = omega (arith, within-both 0 2000000000 x (kept e .ok))
-signed-small (Value a b) x g t e = clash (cc)
-signed-small (Multiplier a) x g t e = clash (cc)
-signed-small End x g t e = clash (cc)
 
 -- a number beyond what is allowed
 within-out : (most x : ℕ) → most < x → within 0 most x ≡ false
@@ -82,6 +60,14 @@ signed-large (Bound a) x t h = rw (within-out 2000000000 x (omega arith))
 signed-large (Value a b) x t h = clash (cc)
 signed-large (Multiplier a) x t h = clash (cc)
 signed-large End x t h = clash (cc)
+
+-- and so one that is allowed is small in its stored form
+pub signed-small : (f : Field) (x : ℕ) (g : Field) → signedAt f ≡ true → stepOf f x ≡ Next g → x < 2 ^ 63
+signed-small f x g t e = go (ltb x (2 ^ 63)) refl
+  where
+    go : (o : Bool) → ltb x (2 ^ 63) ≡ o → x < 2 ^ 63
+    go true q = ltb-true x (2 ^ 63) q
+    go false q = let n = signed-large f x t (ltb-false x (2 ^ 63) q) in clash (cc)
 
 -- only the end is the end
 pub end-only : (f : Field) → endAt f ≡ true → f ≡ End

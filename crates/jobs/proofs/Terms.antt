@@ -11,7 +11,7 @@ use lib.IntN.{ℤ, natAbs}
 use Rattle.numbers.specs.Choice.{if_then_else_}
 use Rattle.numbers.specs.Zigzag.{signedOf}
 use Rattle.numbers.proofs.Clash.{clash}
-use Rattle.numbers.proofs.Signs.{stored-signed, stored-most}
+use Rattle.numbers.proofs.Signs.{signs-written-back, stored-most}
 use Rattle.fields.specs.declared.links.Links.{Links}
 use Rattle.fields.specs.declared.Field.the-variants.{Cell, Coefficient, Bound}
 use Rattle.fields.specs.declared.Step.the-variants.{Next, Refused}
@@ -26,7 +26,7 @@ signed-some raw h = go (ltb 0 (natAbs (signedOf raw))) refl
   where
     go : (t : Bool) → ltb 0 (natAbs (signedOf raw)) ≡ t → 1 ≤ natAbs (signedOf raw)
     go true e = ltb-true 0 (natAbs (signedOf raw)) e
-    go false e = absurd (h (omega (arith, stored-most (signedOf raw) 0 (ltb-false 0 (natAbs (signedOf raw)) e), stored-signed raw)))
+    go false e = absurd (h (omega (arith, stored-most (signedOf raw) 0 (ltb-false 0 (natAbs (signedOf raw)) e), signs-written-back raw)))
 
 -- the link after a term whose cell is x, and with a term less to come
 abbrev named : Links → ℕ → Links

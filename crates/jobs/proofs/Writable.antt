@@ -5,28 +5,26 @@ use mathlib.Core.Bool.{Bool, true, false}
 use mathlib.Core.List.{List, []}
 use native.Mathlib.Numerals.{add-one}
 use native.Mathlib.Omega.{arith}
-use borrow.Author.Tests.{lt-ltb, le-ltb, le-leb, ne-eqb, eqb-true, eqb-false}
-use lib.Dec.{ltb, leb, eqb}
+use borrow.Author.Tests.{lt-ltb, le-ltb, le-leb, ne-eqb, eqb-true}
+use lib.Dec.{ltb, eqb}
 use lib.IntN.{ℤ, pos, negsuc, natAbs}
 use lib.ListN.{length, drop, drop-of-length-le}
 use lib.Seq.{drop-cons}
-use lib.Signed.{_≤ℤ_, ltZ}
 use Rattle.numbers.specs.Choice.{if_then_else_}
 use Rattle.numbers.specs.Plain.{bytesOf}
 use Rattle.numbers.specs.Zigzag.{storedOf}
 use Rattle.fields.specs.declared.cells.Cells.{Cells}
 use Rattle.fields.specs.declared.links.Links.{Links}
 use Rattle.fields.specs.declared.Field.{Field}
-use Rattle.fields.specs.declared.Field.the-variants.{Society, Job, Count, Order, Constant, Tolerance, Crude, Weight, Floor, Ceiling, LinkCount, TermCount, Cell, Coefficient, Bound, End}
+use Rattle.fields.specs.declared.Field.the-variants.{Society, Job, Count, Order, Constant, Tolerance, Crude, Weight, Floor, Ceiling, LinkCount, TermCount, Cell, Coefficient, Bound}
 use Rattle.fields.specs.declared.Step.the-variants.{Next}
 use Rattle.fields.specs.Table.{within, orderUsed, afterCeiling, linksFrom, signedAt, endAt, stepOf}
 use Rattle.whole.proofs.Order.{pos-le}
 use Rattle.packs.specs.declared.Outcome.the-variants.{Done}
 use Rattle.packs.specs.declared.words.Raw.the-variants.{Number}
 use Rattle.packs.specs.Writing.{rawOf, writeFrom}
-use Rattle.jobs.specs.Job.{Job as JobRecord}
 use Rattle.jobs.specs.Words.{wordAt, countAt, cellsOf, linksOf, startOf, jobOf}
-use Rattle.jobs.specs.Allowed.{Upto, Allowed, CellAllowed, TermAllowed, LinkAllowed, positives, Counted, Laid}
+use Rattle.jobs.specs.Allowed.{Allowed, TermAllowed, positives, Laid}
 use Rattle.jobs.specs.Packs.{writeJob}
 
 pub within-most : (least most x : ℕ) → least ≤ x → x ≤ most → within least most x ≡ true

@@ -5,12 +5,12 @@ use mathlib.Core.Bool.{Bool, true, false}
 use mathlib.Core.List.{List, [], _∷_, _++_}
 use native.Mathlib.Nat.{pow-suc}
 use native.Mathlib.Omega.{arith}
-use borrow.Author.Tests.{lt-ltb, le-ltb, ltb-false}
+use borrow.Author.Tests.{lt-ltb, le-ltb, ltb-true, ltb-false}
 use lib.Dec.{ltb}
 use lib.ListN.{length, length-append}
 use Rattle.numbers.specs.Choice.{if_then_else_}
 use Rattle.line.specs.Line.{digitsIn, decimal}
-use Rattle.line.specs.Promises.{numeral, DecimalsReadBack, DecimalsShortest}
+use Rattle.line.specs.Promises.{numeral, AllDigits, DecimalsReadBack, DecimalsShortest}
 
 -- more room than is needed changes nothing
 digits-fuel : (g x : ℕ) → x < 10 ^ suc g → digitsIn (suc g) x ≡ digitsIn (suc (suc g)) x
@@ -69,5 +69,19 @@ unfolding digitsIn
 read-back zero x h = omega arith
 read-back (suc g) x h = stands-for g x (ltb x 10) (read-back g (x / 10) (omega (arith, pow-suc 10 g)))
 
+-- ---- that they are digits
+digits-last : (digits : List ℕ) (last : ℕ) → AllDigits digits → (48 ≤ last) × (last ≤ 57) → AllDigits (digits ++ (last ∷ []))
+digits-last [] last a h = (h, tt)
+digits-last (digit ∷ digits) last a h = (a .0, digits-last digits last (a .1) h)
+
+are-digits : (g x : ℕ) → AllDigits (digitsIn g x)
+unfolding digitsIn
+are-digits zero x = tt
+are-digits (suc g) x = go (ltb x 10) refl (are-digits g (x / 10))
+  where
+    go : (t : Bool) → ltb x 10 ≡ t → AllDigits (digitsIn g (x / 10)) → AllDigits (if t then (48 + x) ∷ [] else digitsIn g (x / 10) ++ ((48 + x % 10) ∷ []))
+    go true e a = ((omega arith, omega (arith, ltb-true x 10 e)), tt)
+    go false e a = digits-last (digitsIn g (x / 10)) (48 + x % 10) a (omega arith, omega arith)
+
 pub decimals-read-back : DecimalsReadBack
-decimals-read-back x h = read-back 20 x (omega arith)
+decimals-read-back x h = (are-digits 20 x, read-back 20 x (omega arith))

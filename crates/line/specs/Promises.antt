@@ -11,9 +11,14 @@ abbrev pub numeral : ℕ → List ℕ → ℕ
 numeral before [] = before
 numeral before (digit ∷ digits) = numeral (10 * before + (digit - 48)) digits
 
--- The digits of a 64-bit number stand for it, and there are no more of them than it needs: so none is a leading zero.
+-- Every byte is one of the digits 0 to 9.
+abbrev pub AllDigits : List ℕ → Type 0
+AllDigits [] = Unit {0}
+AllDigits (digit ∷ digits) = ((48 ≤ digit) × (digit ≤ 57)) × AllDigits digits
+
+-- The digits of a 64-bit number are digits and stand for it, and there are no more of them than it needs: so none is a leading zero.
 abbrev pub DecimalsReadBack : Type 0
-DecimalsReadBack = (x : ℕ) → x < 2 ^ 64 → numeral 0 (decimal x) ≡ x
+DecimalsReadBack = (x : ℕ) → x < 2 ^ 64 → AllDigits (decimal x) × (numeral 0 (decimal x) ≡ x)
 
 abbrev pub DecimalsShortest : Type 0
 DecimalsShortest = (k x : ℕ) → x < 10 ^ suc k → length (decimal x) ≤ suc k

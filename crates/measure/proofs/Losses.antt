@@ -133,42 +133,65 @@ module _ {ws ps : List ℤ} {n z : ℕ} (G : Given ws ps) (en : n ≡ cellsOf ws
     rates = λ m k. G .proposed .value (i + m) (omega (arith, order-less));
   }
 
+-- the differences of a table, by the job's order
+module _ {ws ps : List ℤ} (G : Given ws ps) where
+  at-order : (i : ℕ) → differenceOn ws ps i ≡ differenceOf (jobOf ws .order) (wordAt ps) i
+  at-order i = sym (difference-is (jobOf ws) (wordAt ps) i)
+
+  each-small : (i : ℕ) → i < cellsOf ws - jobOf ws .order → natAbs (differenceOn ws ps i) ≤ 8000000
+  each-small i h = subst (λ (x : ℤ). natAbs x ≤ 8000000) (sym (at-order i)) (difference-small (differs G refl refl i h))
+
+  each-less : jobOf ws .order ≤ 3 → (i : ℕ) → i < cellsOf ws - jobOf ws .order → natAbs (differenceOn ws ps i) ≤ 4000000
+  each-less k i h = subst (λ (x : ℤ). natAbs x ≤ 4000000) (sym (at-order i)) (difference-less (differs G refl refl i h) k)
+
+  abbrev roughOn : ℤ
+  roughOn = sum (cellsOf ws - jobOf ws .order) (λ i. squared (differenceOn ws ps i))
+
+  -- either there are at most 116 differences, of order 4, or each is at most 4,000,000
+  rough-at-most : natAbs roughOn ≤ 7424000000000000
+  rough-at-most = go (N.eq-or-lt-of-le (G .allowed .order-few))
+    where
+      squares : (most : ℕ) → ((i : ℕ) → i < cellsOf ws - jobOf ws .order → natAbs (differenceOn ws ps i) ≤ most) → natAbs roughOn ≤ (cellsOf ws - jobOf ws .order) * (most * most)
+      squares most each = sum-bound (cellsOf ws - jobOf ws .order) (λ i. squared (differenceOn ws ps i)) (most * most) (λ i h. bound-* (differenceOn ws ps i) (differenceOn ws ps i) (each i h) (each i h))
+
+      go : (jobOf ws .order ≡ 4) ⊎ (jobOf ws .order < 4) → natAbs roughOn ≤ 7424000000000000
+      go (inl e) = omega (arith, squares 8000000 each-small, G .allowed .cells-few)
+      go (inr l) = omega (arith, squares 4000000 (each-less (N.le-of-suc-le-suc l)), G .allowed .cells-few, G .allowed .order-some)
+
+  fit-at-most : natAbs (fitOn ws ps) ≤ 120000000000000000
+  fit-at-most = N.le-trans (partial-small (fit-adds G refl) (cellsOf ws) (N.le-refl (cellsOf ws))) (omega (arith, G .allowed .cells-few))
+
+  parts-on : LossParts (fitOn ws ps) (jobOf ws .constant) roughOn
+  parts-on = record { fit-small = fit-at-most; k-small = G .allowed .constant .small; rough-small = rough-at-most }
+
+  -- "The loss is at most 7.6·10^18."
+  pub loss-at-most : natAbs (lossOn ws ps) ≤ 7600000000000000000
+  unfolding lossOf
+  loss-at-most = N.le-trans (loss-parts-small parts-on) (leb→le 7544000000000000000 7600000000000000000 tt)
+
+  pub loss-in-64 : SFits w64 (lossOn ws ps)
+  loss-in-64 = small-fits (lossOn ws ps) loss-at-most (lit< tt)
+
 module _ {ws ps : List ℤ} {n z : ℕ} {d : List ℤ} (M : Measured ws ps n z d) where
-  at-order : (i : ℕ) → i < n - z → wordAt d i ≡ differenceOf z (wordAt ps) i
-  at-order i h = M .at i h ∙ sym (difference-is (jobOf ws) (wordAt ps) i) ∙ ap (λ (z : ℕ). differenceOf z (wordAt ps) i) (sym (M .z-is))
+  on-job : {i : ℕ} → i < n - z → i < cellsOf ws - jobOf ws .order
+  on-job h = omega (arith, h, M .n-is, M .z-is)
 
   pub measured-differences : Differences (n - z) d
   measured-differences = record {
     few = omega (arith, M .n-is, M .z-is, M .given .allowed .cells-few, M .given .allowed .order-some);
     inside = M .room;
-    each = λ i h. record {
-      small = subst (λ (x : ℤ). natAbs x ≤ 8000000) (sym (at-order i h)) (difference-small (differs (M .given) (M .n-is) (M .z-is) i h));
-    };
+    each = λ i h. record { small = subst (λ (x : ℤ). natAbs x ≤ 8000000) (sym (M .at i h)) (each-small (M .given) i (on-job h)) };
   }
 
-  -- either there are at most 116 differences, of order 4, or each is at most 4,000,000
-  rough-at-most : natAbs (sum (n - z) (λ i. squared (wordAt d i))) ≤ 7424000000000000
-  rough-at-most = go (N.eq-or-lt-of-le (subst (λ (x : ℕ). x ≤ 4) (sym (M .z-is)) (M .given .allowed .order-few)))
-    where
-      less : z ≤ 3 → (i : ℕ) → i < n - z → natAbs (wordAt d i) ≤ 4000000
-      less k i h = subst (λ (x : ℤ). natAbs x ≤ 4000000) (sym (at-order i h)) (difference-less (differs (M .given) (M .n-is) (M .z-is) i h) k)
-
-      go : (z ≡ 4) ⊎ (z < 4) → natAbs (sum (n - z) (λ i. squared (wordAt d i))) ≤ 7424000000000000
-      go (inl e) = N.le-trans (partial-small (squares-adds measured-differences) (n - z) (N.le-refl (n - z))) (omega (arith, M .n-is, M .given .allowed .cells-few))
-      go (inr l) =
-          N.le-trans
-          (sum-bound (n - z) (λ i. squared (wordAt d i)) 16000000000000 (λ i h. bound-* (wordAt d i) (wordAt d i) (less (N.le-of-suc-le-suc l) i h) (less (N.le-of-suc-le-suc l) i h)))
-          (omega (arith, measured-differences .few))
-
   module _ {k rough fit : ℤ} (ek : k ≡ jobOf ws .constant) (er : rough ≡ sum (n - z) (λ i. squared (wordAt d i))) (ef : fit ≡ fitOn ws ps) where
+    rough-is : rough ≡ roughOn (M .given)
+    rough-is =
+        er
+        ∙ sum-cong (n - z) (λ i l. ap squared (M .at i l))
+        ∙ ap₂ (λ (n z : ℕ). sum (n - z) (λ i. squared (differenceOn ws ps i))) (M .n-is) (M .z-is)
+
     loss-parts : LossParts fit k rough
-    loss-parts = record {
-      fit-small =
-          subst (λ (x : ℤ). natAbs x ≤ 120000000000000000) (sym ef)
-          (N.le-trans (partial-small (fit-adds (M .given) refl) (cellsOf ws) (N.le-refl (cellsOf ws))) (omega (arith, M .given .allowed .cells-few)));
-      k-small = subst (λ (x : ℤ). natAbs x ≤ 1000) (sym ek) (M .given .allowed .constant .small);
-      rough-small = subst (λ (x : ℤ). natAbs x ≤ 7424000000000000) (sym er) rough-at-most;
-    }
+    loss-parts = rw (ef, ek, rough-is) (parts-on (M .given))
 
     fit-read : read fit ≡ fit
     fit-read = gives refl (small-fits fit (loss-parts .fit-small) (lit< tt))
@@ -184,25 +207,7 @@ module _ {ws ps : List ℤ} {n z : ℕ} {d : List ℤ} (M : Measured ws ps n z d
 
     loss-is : fit +ℤ k *ℤ rough ≡ lossOn ws ps
     unfolding lossOf
-    loss-is =
-        ap₂ _+ℤ_ ef
-        (ap₂ _*ℤ_ ek
-        (er
-        ∙ sum-cong (n - z) (λ i l. ap squared (M .at i l))
-        ∙ ap₂ (λ (n z : ℕ). sum (n - z) (λ i. squared (differenceOn ws ps i))) (M .n-is) (M .z-is)))
-
-    loss-fits : SFits w64 (lossOn ws ps)
-    loss-fits = subst (λ (x : ℤ). SFits w64 x) loss-is (joined-fits loss-parts)
-
-    loss-parts-most : natAbs (lossOn ws ps) ≤ 7600000000000000000
-    loss-parts-most = subst (λ (x : ℤ). natAbs x ≤ 7600000000000000000) loss-is (N.le-trans (loss-parts-small loss-parts) (leb→le 7544000000000000000 7600000000000000000 tt))
+    loss-is = ap₂ _+ℤ_ ef (ap₂ _*ℤ_ ek rough-is)
 
     pub loss-result : {r : ℤ} → r ≡ read fit +ℤ read k *ℤ read rough → read r ≡ lossOn ws ps
-    loss-result {r} t = gives (t ∙ ap₂ _+ℤ_ fit-read (ap₂ _*ℤ_ k-read rough-read) ∙ loss-is) loss-fits
-
-  -- "The loss is at most 7.6·10^18."
-  pub loss-at-most : natAbs (lossOn ws ps) ≤ 7600000000000000000
-  loss-at-most = loss-parts-most {k = jobOf ws .constant} {rough = sum (n - z) (λ i. squared (wordAt d i))} {fit = fitOn ws ps} refl refl refl
-
-  pub loss-in-64 : SFits w64 (lossOn ws ps)
-  loss-in-64 = small-fits (lossOn ws ps) loss-at-most (lit< tt)
+    loss-result {r} t = gives (t ∙ ap₂ _+ℤ_ fit-read (ap₂ _*ℤ_ k-read rough-read) ∙ loss-is) (loss-in-64 (M .given))

@@ -1,6 +1,6 @@
 -- From packs to words: what a pack's reading leaves in lent words is the pack's words at their head, a read job is allowed and laid, and a read
 -- proposal is one for it.
-use Prim.Native.Nat.{ℕ, _+_, _≤_}
+use Prim.Native.Nat.{ℕ, _≤_}
 use mathlib.Core.Path.{_≡_, sym, ap, ap₂, subst, _∙_}
 use mathlib.Core.List.{List}
 use native.Mathlib.Nat.{zero-add}

@@ -1,5 +1,5 @@
 -- What the check hands from one step to the next: the boxes, the walk over the links, and the gap that the running total decides.
-use Prim.Native.Nat.{ℕ, zero, suc, _+_, _-_, _*_, _≤_, _<_}
+use Prim.Native.Nat.{ℕ, _+_, _-_, _*_, _≤_, _<_}
 use mathlib.Core.Path.{_≡_, refl, sym, ap, ap₂, subst, subst₂, _∙_}
 use mathlib.Core.Bool.{Bool, true, false, _&&_}
 use mathlib.Core.List.{List}
@@ -222,7 +222,7 @@ module _ {ws ps : List ℤ} {n : ℕ} {total : ℤ} {parts : List ℤ} (J : Judg
           → Accepted (read f) (read g) ≡ judgedOn ws ps
       judged-accepts {f} q e =
           let k : g ≡ gapOn ws ps = tells .exact (leZ-yes (true-T (sym test-is ∙ e))) in
-          ap₂ Accepted (gives q (loss-in-64 judge-measured)) (g-read ∙ k)
+          ap₂ Accepted (gives q (loss-in-64 (J .table .given))) (g-read ∙ k)
           ∙ ap judgedBy (sym (ap (λ (x : ℤ). leZ x (jobOf ws .tolerance)) (sym k) ∙ sym test-is ∙ e))
 
       pub judged-refuses : leZ (read g) (read t) ≡ false → Refused 9 0 ≡ judgedOn ws ps

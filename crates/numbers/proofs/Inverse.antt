@@ -1,5 +1,5 @@
--- Reading and writing a number are inverse, both ways: a number below 2^63 that was written is read back (`read-written`), and the bytes that a
--- number was read from are its shortest form with the rest after it (`written-read`): no other form is read.
+-- Reading and writing a number are inverse, both ways: a number below 2^63 that was written is read back (`numbers-read-back`), and the bytes that a
+-- number was read from are its shortest form with the rest after it (`numbers-written-back`): no other form is read.
 use Prim.Native.Nat.{ℕ, zero, suc, _+_, _*_, _/_, _%_, _^_, _≤_, _<_}
 use mathlib.Core.Path.{_≡_, refl, ap, ap₂, _∙_}
 use mathlib.Core.Bool.{Bool, true, false}
@@ -12,7 +12,8 @@ use lib.ListN.{length, getD}
 use Rattle.numbers.specs.declared.plain.Number.{Number}
 use Rattle.numbers.specs.declared.plain.Number.the-variants.{Value, Unreadable}
 use Rattle.numbers.specs.Choice.{if_then_else_}
-use Rattle.numbers.specs.Plain.{numberIn, joined, bytesIn, bytesOf}
+use Rattle.numbers.specs.Plain.{numberIn, joined, bytesIn}
+use Rattle.numbers.specs.Promises.{NumbersReadBack, NumbersWrittenBack}
 use Rattle.numbers.proofs.Clash.{clash}
 use Rattle.numbers.proofs.Reading.{bound}
 use Rattle.numbers.proofs.Bytes.{bytes-nine}
@@ -44,8 +45,8 @@ read-in (suc g) x at rest h = go (ltb x 128) refl (read-in g (x / 128) (at + 1) 
     go true e ih = one-group (suc g) x at rest (ltb-true x 128 e)
     go false e ih = more-groups (suc g) x at rest (ltb-false x 128 e) ih
 
-pub read-written : (x at : ℕ) (rest : List ℕ) → x < 2 ^ 63 → numberIn 9 (bytesOf x ++ rest) at ≡ Value x (at + length (bytesOf x))
-read-written x at rest h = rw (← bytes-nine x h) (read-in 8 x at rest h)
+pub numbers-read-back : NumbersReadBack
+numbers-read-back x at rest h = rw (← bytes-nine x h) (read-in 8 x at rest h)
 
 -- ---- read, then written
 
@@ -93,15 +94,8 @@ read-of (suc g) (b ∷ bytes) at v n small e = go (ltb b 128) refl e (λ w m. re
     go true l e ih = last-group g b at bytes (ltb-true b 128 l) e
     go false l e ih = read-joined g b at bytes (numberIn g bytes (at + 1)) (ltb-false b 128 l) (small 0) ih e
 
--- what was read, with the rest after it: the bytes are those that writing the number gives
-pub record WrittenRead (bytes : List ℕ) (at v n : ℕ) : Type 0 where
-  pub rest : List ℕ
-  pub same : bytes ≡ bytesOf v ++ rest
-  pub next : n ≡ at + length (bytesOf v)
-  pub small : v < 2 ^ 63
-
-pub written-read : (bytes : List ℕ) (at v n : ℕ) → ((i : ℕ) → getD bytes i 0 < 256) → numberIn 9 bytes at ≡ Value v n → WrittenRead bytes at v n
-written-read bytes at v n small e =
+pub numbers-written-back : NumbersWrittenBack
+numbers-written-back bytes at v n small e =
     let r = read-of 9 bytes at v n small e in
     let h : v < 2 ^ 63 = rw e at (bound 9 bytes at) in
     let b = bytes-nine v h in

@@ -14,6 +14,7 @@ use mir.Facts.{toZ-ofZ, toZ-pos, toZ-neg}
 use Rattle.numbers.specs.declared.zigzag.Sign.the-variants.{Plus, Minus}
 use Rattle.numbers.specs.Choice.{if_then_else_}
 use Rattle.numbers.specs.Zigzag.{storedOf, signedOf, signOf}
+use Rattle.numbers.specs.Promises.{SignsReadBack, SignsWrittenBack}
 use Rattle.numbers.proofs.Clash.{clash}
 
 pub minus-one-pos : (n : ℕ) → negsuc 0 -ℤ pos n ≡ negsuc n
@@ -57,12 +58,12 @@ minus-is (negsuc m) n e = cc
 
 -- ---- the stored form is one to one
 
-pub signed-stored : (x : ℤ) → signedOf (storedOf x) ≡ x
-signed-stored (pos n) = rw (eq-eqb (n * 2 % 2) 0 (omega arith)) (ap pos (omega arith))
-signed-stored (negsuc n) = rw (ne-eqb ((n * 2 + 1) % 2) 0 (omega arith)) (ap negsuc (omega arith))
+pub signs-read-back : SignsReadBack
+signs-read-back (pos n) = rw (eq-eqb (n * 2 % 2) 0 (omega arith)) (ap pos (omega arith))
+signs-read-back (negsuc n) = rw (ne-eqb ((n * 2 + 1) % 2) 0 (omega arith)) (ap negsuc (omega arith))
 
-pub stored-signed : (raw : ℕ) → storedOf (signedOf raw) ≡ raw
-stored-signed raw = go (eqb (raw % 2) 0) refl
+pub signs-written-back : SignsWrittenBack
+signs-written-back raw = go (eqb (raw % 2) 0) refl
   where
     go : (t : Bool) → eqb (raw % 2) 0 ≡ t → storedOf (if t then pos (raw / 2) else negsuc (raw / 2)) ≡ raw
     go true e = omega (arith, eqb-true (raw % 2) 0 e)

@@ -1,12 +1,12 @@
 -- The walk, move by move, over bytes or over words: what is left ends as the whole does. `Along` is the loop's invariant: start it with
 -- `along-start`, go on with `along-go`, end with `along-stop` or `along-refuse`.
-use Prim.Native.Nat.{ℕ, suc, _+_, _-_, _*_, _^_, _≤_, _<_}
+use Prim.Native.Nat.{ℕ, _+_, _-_, _*_, _^_, _≤_, _<_}
 use mathlib.Core.Path.{_≡_, refl, sym, ap, _∙_}
 use mathlib.Core.Bool.{Bool, true, false}
-use mathlib.Core.List.{List, []}
+use mathlib.Core.List.{List}
 use native.Mathlib.Numerals.{add-one}
 use native.Mathlib.Omega.{arith}
-use borrow.Author.Tests.{lt-ltb, le-ltb, ltb-true, ltb-false}
+use borrow.Author.Tests.{lt-ltb, ltb-true, ltb-false}
 use lib.Dec.{ltb}
 use lib.IntN.{ℤ, pos, negsuc}
 use lib.ListN.{length, getD, drop, set, length-set, drop-of-length-le}
@@ -33,7 +33,7 @@ use Rattle.packs.specs.declared.words.Raw.the-variants.{Number as Stored
 use Rattle.packs.specs.declared.walking.Found.the-variants.{Number as Finds, Nothing}
 use Rattle.packs.specs.declared.walking.Move.{Move}
 use Rattle.packs.specs.declared.walking.Move.the-variants.{Go, Stop, Refuse}
-use Rattle.packs.specs.Reading.{Ran, settled, numbered, moveOf, onMove, runFrom, readFrom}
+use Rattle.packs.specs.Reading.{Ran, settled, numbered, moveOf, onMove, runFrom}
 use Rattle.packs.specs.Writing.{Put, Fits, Bars, plainOf, rawOf, onStep, onRaw, putOf}
 use Rattle.packs.specs.Walking.{inBytes, inGroups, plainly, inWord, Small, onFound, walkMove, onNumber, stops, numbersFrom, walkOf}
 use Rattle.packs.proofs.Forward.{move-next, run-move}

@@ -1,22 +1,28 @@
 -- The promises of packs (`specs/Promises`), each from the laws of `Packed` in a few lines.
-use Prim.Native.Nat.{ℕ, _+_}
+use Prim.Native.Nat.{ℕ, suc, _+_}
 use mathlib.Core.Path.{_≡_, refl, sym, ap, _∙_}
-use mathlib.Core.Logic.{inl, inr}
+use mathlib.Core.Logic.{_⊎_, inl, inr}
+use mathlib.Core.Bool.{Bool, true, false}
 use mathlib.Core.List.{List}
 use native.Mathlib.Nat as N
 use native.Mathlib.Omega.{arith}
-use lib.IntN.{ℤ}
+use lib.IntN.{ℤ, pos, negsuc}
 use lib.ListN.{length}
 use Rattle.numbers.proofs.Clash.{clash}
+use Rattle.numbers.specs.Zigzag.{storedOf}
 use Rattle.fields.specs.declared.Field.{Field}
+use Rattle.fields.specs.declared.Step.the-variants.{NotAllowed}
+use Rattle.fields.specs.Table.{signedAt, stepOf}
+use Rattle.fields.proofs.Rows.{signed-large}
 use Rattle.packs.specs.declared.Outcome.{Outcome}
 use Rattle.packs.specs.declared.Outcome.the-variants.{Done, Refused}
+use Rattle.packs.specs.declared.words.Raw.the-variants.{Number, Nothing}
 use Rattle.packs.specs.Reading.{Ran, readFrom}
-use Rattle.packs.specs.Writing.{Written, writeFrom}
+use Rattle.packs.specs.Writing.{Written, rawOf, writeFrom}
 use Rattle.packs.specs.PackOf.{PackOf, Reached, start, onward}
-use Rattle.packs.specs.Promises.{WritingBack, ReadingBack, readAs, RefusingAlike, OutOfRange, EndingEarly, RunningOn}
+use Rattle.packs.specs.Promises.{AllWords, WritingBack, ReadingBack, readAs, RefusingAlike, StuckRefused, OutOfRange, EndingEarly, RunningOn}
 use Rattle.packs.proofs.Packing.{length-written}
-use Rattle.packs.proofs.Packed.{ended, Agrees, agrees, packs-write, write-packs, read-packs}
+use Rattle.packs.proofs.Packed.{plain-small, ended, Agrees, agrees, packs-write, write-packs, read-packs}
 
 -- a whole pack, read from its first byte
 agrees-from : (first : Field) (ws : List ℤ) (s : List ℕ) → PackOf first ws s → Agrees 0 ws (writeFrom ws first 0 .outcome) (readFrom first s)
@@ -73,3 +79,19 @@ ending-early first f ws at r e = reached r ∙ rw e
 pub running-on : RunningOn
 unfolding writeFrom
 running-on first f ws xs at x r e = reached r ∙ rw e
+
+-- the words that are left are some of the words
+left-fit : {first f : Field} {ws rest : List ℤ} {at : ℕ} → AllWords ws → Reached first ws f at rest → AllWords rest
+left-fit fit start = fit
+left-fit fit (onward raw r e q s) = λ i. left-fit fit r (suc i)
+
+pub stuck-refused : StuckRefused
+stuck-refused first ws fit k = go (signedAt (k .f)) refl (k .x) refl
+  where
+    out : (rawOf (k .f) (k .x) ≡ Nothing) ⊎ ((raw : ℕ) × ((rawOf (k .f) (k .x) ≡ Number raw) × (stepOf (k .f) raw ≡ NotAllowed))) → writeFrom ws first 0 .outcome ≡ Refused 2 (k .at)
+    out o = out-of-range first (k .f) ws (k .rest) (k .at) (k .x) (k .reached) (k .not-ended) o
+
+    go : (t : Bool) → signedAt (k .f) ≡ t → (x : ℤ) → k .x ≡ x → writeFrom ws first 0 .outcome ≡ Refused 2 (k .at)
+    go true t x e = let q : rawOf (k .f) (k .x) ≡ Number (storedOf (k .x)) = rw t in out (inr (storedOf (k .x), (q, signed-large (k .f) (storedOf (k .x)) t (k .unstorable (storedOf (k .x)) q))))
+    go false t (negsuc n) e = out (inl (rw (t, e)))
+    go false t (pos n) e =  absurd (omega (arith, k .unstorable n (rw (t, e)), plain-small (k .x) n (left-fit fit (k .reached) 0) (rw e)))

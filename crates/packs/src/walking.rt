@@ -9,7 +9,7 @@ use fields::Step;
 use numbers::plain::Number;
 ghost use mathlib.Core.Path.{_≡_};
 ghost use mathlib.Core.Bool.{true};
-ghost use Prim.Native.Nat.{ℕ, _+_, _*_, _^_, _≤_, _<_};
+ghost use Prim.Native.Nat.{_+_, _*_, _^_, _≤_, _<_};
 ghost use lib.ListN.{set};
 ghost use Rattle.fields.specs.Table.{stepOf};
 ghost use Rattle.packs.specs.Reading.{settled, Hands};

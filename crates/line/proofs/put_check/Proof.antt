@@ -13,11 +13,6 @@ use Rattle.line.proofs.Tables.{tableLine, accepted-line, refused-line}
 use borrow.Author.Needs.{needs}
 use Rattle.line.proofs.put_check.Statement.{statement}
 use Rattle.line.proofs.put_check.Tie as tie
-use Rattle.line.proofs.put_check.Reads as reads
-use Rattle.line.proofs.put_check.Lts as lts
-use Rattle.line.proofs.parted.put_two.Reads as put-two-reads
-use Rattle.line.proofs.table.put_table.Reads as put-table-reads
-use Rattle.measure.proofs.check.check_into.Reads as check-into-reads
 
 check-into-requires : tie.Need-check-into-requires
 check-into-requires c κs = search needs

@@ -4,7 +4,6 @@ use mathlib.Core.Path.{refl}
 use borrow.Author.Needs.{needs}
 use Rattle.jobs.proofs.job.hand_out.Statement.{statement}
 use Rattle.jobs.proofs.job.hand_out.Tie as tie
-use Rattle.jobs.proofs.copying.copy_words.Reads as copy-words-reads
 
 returns : tie.Need-returns
 returns c = rw (lt-ltb _ _ (c .if1 .taken)) (refl, refl)

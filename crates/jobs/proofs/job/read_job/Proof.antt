@@ -6,8 +6,6 @@ use mathlib.Core.Path.{refl, sym, _∙_}
 use borrow.Author.Needs.{needs}
 use Rattle.jobs.proofs.job.read_job.Statement.{statement}
 use Rattle.jobs.proofs.job.read_job.Tie as tie
-use Rattle.jobs.proofs.job.hand_out.Reads as hand-out-reads
-use Rattle.packs.proofs.reading.read.Reads as read-reads
 
 slice-aggregate-read : tie.Need-slice-aggregate-read
 slice-aggregate-read c = search needs

@@ -6,10 +6,6 @@ use mathlib.Core.Path.{refl, sym, _∙_}
 use borrow.Author.Needs.{needs}
 use Rattle.jobs.proofs.job.write_job.Statement.{statement}
 use Rattle.jobs.proofs.job.write_job.Tie as tie
-use Rattle.jobs.proofs.job.write_job.Reads as reads
-use Rattle.jobs.proofs.job.write_job.Lts as lts
-use Rattle.packs.proofs.writing.numbers_of.Reads as numbers-of-reads
-use Rattle.packs.proofs.writing.put.Reads as put-reads
 
 slice-aggregate-numbers-of : tie.Need-slice-aggregate-numbers-of
 slice-aggregate-numbers-of c = search needs

@@ -4,9 +4,6 @@ use mathlib.Core.Path.{ap, _∙_}
 use borrow.Author.Needs.{needs}
 use Rattle.jobs.proofs.proposal.read_proposal.Statement.{statement}
 use Rattle.jobs.proofs.proposal.read_proposal.Tie as tie
-use Rattle.fields.proofs.proposal.values_from.Reads as values-from-reads
-use Rattle.jobs.proofs.proposal.as_six.Reads as as-six-reads
-use Rattle.packs.proofs.reading.read.Reads as read-reads
 
 values-from-requires : tie.Need-values-from-requires
 values-from-requires c κs = search needs

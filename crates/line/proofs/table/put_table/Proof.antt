@@ -10,11 +10,6 @@ use Rattle.line.proofs.Tables.{tableLine}
 use borrow.Author.Needs.{needs}
 use Rattle.line.proofs.table.put_table.Statement.{statement}
 use Rattle.line.proofs.table.put_table.Tie as tie
-use Rattle.line.proofs.table.put_table.Reads as reads
-use Rattle.line.proofs.table.put_table.Lts as lts
-use Rattle.line.proofs.table.put_rates.Reads as put-rates-reads
-use Rattle.numbers.proofs.zigzag.size_of.Reads as size-of-reads
-use Rattle.shelf.proofs.accepted.count_at.Reads as count-at-reads
 
 size-of-requires : tie.Need-size-of-requires
 size-of-requires c κs = search needs

@@ -5,10 +5,6 @@ use mathlib.Core.Path.{_≡_}
 use borrow.Author.Needs.{needs}
 use Rattle.measure.proofs.check.check_into.Statement.{statement}
 use Rattle.measure.proofs.check.check_into.Tie as tie
-use Rattle.measure.proofs.check.check_into.Reads as reads
-use Rattle.measure.proofs.check.check_into.Lts as lts
-use Rattle.measure.proofs.check.check_part.Reads as check-part-reads
-use Rattle.packs.proofs.reading.read.Reads as read-reads
 
 read-requires : tie.Need-read-requires
 read-requires c κs = search needs

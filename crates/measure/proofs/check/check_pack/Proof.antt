@@ -3,12 +3,6 @@ use Rattle.measure.proofs.Packed.{proposal-answer, proposal-asked, prop
 use borrow.Author.Needs.{needs}
 use Rattle.measure.proofs.check.check_pack.Statement.{statement}
 use Rattle.measure.proofs.check.check_pack.Tie as tie
-use Rattle.measure.proofs.check.check_pack.Reads as reads
-use Rattle.measure.proofs.check.check_pack.Lts as lts
-use Rattle.jobs.proofs.proposal.read_proposal.Reads as read-proposal-reads
-use Rattle.measure.proofs.check.check_first.Reads as check-first-reads
-use Rattle.jobs.proofs.words.cells_of.Reads as cells-of-reads
-use Rattle.jobs.proofs.words.links_of.Reads as links-of-reads
 
 cells-of-requires : tie.Need-cells-of-requires
 cells-of-requires c κs = (c .before .pre .0, c .before .pre .1)

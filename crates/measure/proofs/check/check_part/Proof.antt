@@ -6,9 +6,6 @@ use Rattle.whole.proofs.Solve.{at}
 use borrow.Author.Needs.{needs}
 use Rattle.measure.proofs.check.check_part.Statement.{statement}
 use Rattle.measure.proofs.check.check_part.Tie as tie
-use Rattle.measure.proofs.check.check_part.Reads as reads
-use Rattle.measure.proofs.check.check_part.Lts as lts
-use Rattle.measure.proofs.check.check_pack.Reads as check-pack-reads
 
 sub-check-pack : tie.Need-sub-check-pack
 sub-check-pack c = search needs

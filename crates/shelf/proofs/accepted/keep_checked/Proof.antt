@@ -13,11 +13,6 @@ use Rattle.shelf.proofs.Packs.{given-packs, kept-packs, refused-packs}
 use borrow.Author.Needs.{needs}
 use Rattle.shelf.proofs.accepted.keep_checked.Statement.{statement}
 use Rattle.shelf.proofs.accepted.keep_checked.Tie as tie
-use Rattle.shelf.proofs.accepted.keep_checked.Reads as reads
-use Rattle.shelf.proofs.accepted.keep_checked.Lts as lts
-use Rattle.measure.proofs.check.check_into.Reads as check-into-reads
-use Rattle.shelf.proofs.accepted.keep_table.Reads as keep-table-reads
-use Rattle.shelf.proofs.span.plain.Reads as plain-reads
 
 check-into-requires : tie.Need-check-into-requires
 check-into-requires c κs = search needs

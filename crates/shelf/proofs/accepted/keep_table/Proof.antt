@@ -10,11 +10,6 @@ use Rattle.shelf.specs.Given.{firstValues, keptFrom}
 use borrow.Author.Needs.{needs}
 use Rattle.shelf.proofs.accepted.keep_table.Statement.{statement}
 use Rattle.shelf.proofs.accepted.keep_table.Tie as tie
-use Rattle.shelf.proofs.accepted.keep_table.Reads as reads
-use Rattle.shelf.proofs.accepted.keep_table.Lts as lts
-use Rattle.numbers.proofs.zigzag.size_of.Reads as size-of-reads
-use Rattle.shelf.proofs.accepted.count_at.Reads as count-at-reads
-use Rattle.shelf.proofs.accepted.keep_rates.Reads as keep-rates-reads
 
 size-of-requires : tie.Need-size-of-requires
 size-of-requires c κs = search needs

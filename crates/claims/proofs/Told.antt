@@ -1,0 +1,90 @@
+-- What an accepted check tells: F is at least 0 and at most 7.6·10^18, G is not negative, so the words of the answer are F and G themselves.
+use Prim.Native.Nat.{ℕ, _≤_}
+use mathlib.Core.Path.{_≡_, sym, ap₂, _∙_, refl, subst}
+use mathlib.Core.Bool.{Bool, true, false, cond, true≢false}
+use mathlib.Core.List.{List}
+use native.Mathlib.Omega.{arith}
+use lib.Dec.{eqb}
+use lib.IntN.{ℤ, pos, negsuc, natAbs, _-ℤ_}
+use lib.ListN.{length}
+use lib.Signed.{_≤ℤ_}
+use Rattle.whole.proofs.Order.{+ℤ-nonneg, *ℤ-nonneg, sq-nonneg, pos-mono}
+use Rattle.whole.proofs.Sums.{sum-nonneg}
+use Rattle.certificate.specs.Differences.{difference}
+use Rattle.jobs.specs.Job.{Job}
+use Rattle.jobs.specs.Allowed.{Allowed}
+use Rattle.jobs.proofs.Readings.{read-jobs-allowed, read-jobs-laid, read-proposals-proposed}
+use Rattle.jobs.proofs.Places.{upto-nonneg}
+use Rattle.measure.specs.declared.check.Verdict.{Verdict}
+use Rattle.measure.specs.declared.check.Verdict.the-variants.{Accepted, Refused}
+use Rattle.measure.specs.Loss.{familyOf, lossOf}
+use Rattle.measure.specs.Check.{checkOf}
+use Rattle.measure.proofs.Losses.{loss-at-most}
+use Rattle.shelf.specs.Slots.{Reply, refusal}
+use Rattle.shelf.specs.Checked.{checkedOf, accepted, answerOf}
+use Rattle.shelf.specs.Shelf.{base, fromWhole, keepReply}
+use Rattle.shelf.specs.Calls.{keep, wholeSaid, said}
+use Rattle.bench.specs.Answers.{answerWords}
+use Rattle.claims.specs.Read.{jobIn, valuesIn, lossIn}
+use Rattle.claims.specs.Verdicts.{Acceptable}
+use Rattle.claims.specs.Promises.{LossAtMost}
+use Rattle.claims.specs.BenchPromises.{ToldBest}
+use Rattle.claims.proofs.Accepted.{accepted-exactly, no-other-refusal}
+use Rattle.claims.proofs.Terms.{no-term-negative}
+use Rattle.claims.proofs.Best.{best}
+
+natural : (z : ℤ) → pos 0 ≤ℤ z → z ≡ pos (natAbs z)
+natural (pos n) h = refl
+natural (negsuc n) h = absurd (h .le)
+
+-- ---- the loss
+loss-not-negative : (j : Job) → Allowed j → (v : ℕ → ℤ) → pos 0 ≤ℤ lossOf j v
+unfolding lossOf
+loss-not-negative j A v =
+    +ℤ-nonneg (sum-nonneg (j .cells) (λ i h. *ℤ-nonneg (upto-nonneg (A .cell i h .weight)) (sq-nonneg (v i -ℤ j .crude i))))
+    (*ℤ-nonneg (upto-nonneg (A .constant)) (sum-nonneg (familyOf j .count) (λ i h. sq-nonneg (difference (familyOf j) v i))))
+
+pub loss-most : LossAtMost
+loss-most job proposal B =
+    let A = read-jobs-allowed job (B .job-reads .0) (B .job-reads .1) in
+    let low = loss-not-negative (jobIn job) A (valuesIn job proposal) in
+    let most : natAbs (lossIn job proposal) ≤ 7600000000000000000 = loss-at-most (record {
+      allowed = A;
+      laid = read-jobs-laid job (B .job-reads .0) (B .job-reads .1);
+      proposed = read-proposals-proposed (jobIn job .cells) (jobIn job .links) proposal (B .proposal-reads .0) (B .proposal-reads .1);
+    }) in
+    (low, subst (λ (z : ℤ). z ≤ℤ pos 7600000000000000000) (sym (natural (lossIn job proposal) low)) (pos-mono most))
+
+-- ---- an accepted check
+pub record Verdicted (job proposal : List ℕ) (v : Verdict) : Type 0 where
+  pub as-answered : checkOf job proposal ≡ Accepted (pos (answerOf v .loss)) (pos (answerOf v .gap))
+
+pub verdicted : (job proposal : List ℕ) (v : Verdict) → checkOf job proposal ≡ v → accepted v ≡ true → Verdicted job proposal v
+verdicted job proposal (Refused number place) e y = absurd (true≢false (sym y))
+verdicted job proposal (Accepted F G) e y =
+    let a : Acceptable job proposal F G = accepted-exactly job proposal F G .0 e in
+    let f = loss-most job proposal (a .both-read) .0 in
+    let g = no-term-negative job proposal (a .both-read) (a .values-in-boxes) (a .links-hold) .gap in
+    record {
+      as-answered =
+          e ∙ ap₂ {C = Verdict} Accepted (natural F (subst (λ (z : ℤ). pos 0 ≤ℤ z) (sym (a .loss-is)) f)) (natural G (subst (λ (z : ℤ). pos 0 ≤ℤ z) (sym (a .gap-is)) g));
+    }
+
+-- ---- the words of its answer
+pub told-of : (job proposal answered : List ℕ) (v : Verdict) → checkOf job proposal ≡ v → answerOf v .number ≡ 0 → answered ≡ answerWords (answerOf v) → ToldBest job proposal answered
+told-of job proposal answered (Refused number place) e n w = absurd (omega (arith, n, no-other-refusal job proposal number place e .0))
+told-of job proposal answered (Accepted F G) e n w =
+    let q = verdicted job proposal (Accepted F G) e refl .as-answered in
+    record { F = natAbs F; G = natAbs G; words = w; accepted = q; best = best job proposal (pos (natAbs F)) (pos (natAbs G)) q }
+
+pub kept-told : (job proposal shelf answered : List ℕ) → said base shelf (keep job proposal) .answer .number ≡ 0
+    → answered ≡ answerWords (said base shelf (keep job proposal) .answer) → ToldBest job proposal answered
+unfolding fromWhole keepReply checkedOf
+kept-told job proposal shelf answered n w = go (eqb (length shelf) 4032) n w
+  where
+    by : Bool → Reply
+    by t = cond t (wholeSaid base shelf (keep job proposal)) (refusal 13 4032)
+
+    go : (t : Bool) → by t .answer .number ≡ 0 → answered ≡ answerWords (by t .answer) → ToldBest job proposal answered
+    go true m u = told-of job proposal answered (checkOf job proposal) refl m u
+    go false m u = absurd (omega (arith, m))

@@ -110,6 +110,17 @@ module _ (F : Family) (n : ℕ) (within : Inside F n) (κ v : ℕ → ℤ) where
       (λ f l. ap (λ (x : ℤ). pos 2 *ℤ κ f *ℤ x *ℤ coefficient F f i) (difference-is-form F n f v (within f l)))
       ∙ returned-is-gathered F (λ f. pos 2 *ℤ κ f *ℤ difference F v f) i c
 
+-- equal numbers are gathered to the same
+pub gathered-cong : (F : Family) (p q : ℕ → ℤ) (i : ℕ) → ((f : ℕ) → f < F .count → p f ≡ q f) → gathered F p i ≡ gathered F q i
+gathered-cong F p q i h =
+    sum-ext (suc (F .order))
+    (λ m. ap (λ (z : ℤ). F .row m *ℤ z) (go (leb (m * F .stride) i) (ltb (i - m * F .stride) (F .count)) (i - m * F .stride) refl))
+  where
+    go : (a b : Bool) (f : ℕ) → ltb f (F .count) ≡ b → cond a (cond b (p f) (pos 0)) (pos 0) ≡ cond a (cond b (q f) (pos 0)) (pos 0)
+    go true true f e = h f (ltb-true f (F .count) e)
+    go true false f e = refl
+    go false b f e = refl
+
 -- a factor of all numbers is a factor of what is gathered
 pub gathered-times : (F : Family) (k : ℤ) (p : ℕ → ℤ) (i : ℕ) → gathered F (λ f. k *ℤ p f) i ≡ k *ℤ gathered F p i
 gathered-times F k p i =

@@ -24,13 +24,20 @@ Inside F n = (f : ℕ) → f < F .count → F .start f + F .order * F .stride < 
 abbrev pub Consecutive : Family → Type 0
 Consecutive F = (f : ℕ) → f < F .count → F .start f ≡ f
 
+abbrev pub along : (row : ℕ → ℤ) (order stride count : ℕ) → Family
+along row order stride count = record { row = row; order = order; stride = stride; count = count; start = λ f. f }
+
 -- the cell that the difference f uses with its coefficient m
 abbrev pub cellOf : Family → (f m : ℕ) → ℕ
 cellOf F f m = F .start f + m * F .stride
 
+-- a row laid on the cells of a table x from `start` on, each `stride` after the one before, and summed
+abbrev pub formAt : (row : ℕ → ℤ) (order stride start : ℕ) → (x : ℕ → ℤ) → ℤ
+formAt row order stride start x = sum (suc order) (λ m. row m *ℤ x (start + m * stride))
+
 -- what the difference f comes to at a table x
 abbrev pub difference : Family → (x : ℕ → ℤ) → (f : ℕ) → ℤ
-difference F x f = sum (suc (F .order)) (λ m. F .row m *ℤ x (cellOf F f m))
+difference F x f = formAt (F .row) (F .order) (F .stride) (F .start f) x
 
 -- the coefficient of the cell i in the difference f
 abbrev pub coefficient : Family → (f i : ℕ) → ℤ

@@ -19,12 +19,14 @@ use Rattle.whole.proofs.Magnitude.{bound-+, bound-*}
 use Rattle.whole.proofs.Fits.{Adds, partial-small, small-fits, gives}
 use Rattle.certificate.specs.Problem.{squared}
 use Rattle.jobs.specs.Words.{wordAt, cellsOf, jobOf}
+use Rattle.jobs.specs.Allowed.{Upto}
 use Rattle.jobs.proofs.Places.{cells-inside}
+use Rattle.rows.specs.Rows.{IsRow}
 use Rattle.measure.specs.Loss.{lossOf}
 use Rattle.measure.specs.Given.{Given, Differs, Difference, Differences, LossParts, Measured}
-use Rattle.measure.specs.Running.{differenceOf, Filled}
+use Rattle.measure.specs.Running.{Filled}
 use Rattle.measure.proofs.Places.{read, rate-read, weight-read}
-use Rattle.measure.proofs.Table.{difference-small, difference-less, difference-is}
+use Rattle.measure.proofs.Table.{difference-small, difference-less, row-coefficients}
 use Rattle.measure.proofs.Terms.{apart-small}
 use Rattle.measure.specs.OnWords.{differenceOn, fitTermOn, fitOn, lossOn}
 
@@ -125,24 +127,23 @@ module _ {ws ps : List ℤ} {n z : ℕ} (G : Given ws ps) (en : n ≡ cellsOf ws
   pub order-less : z < n
   order-less = omega (arith, G .allowed .order-less)
 
-  pub differs : (i : ℕ) → i < n - z → Differs z i ps
-  differs i h = record {
-    some = omega (arith, G .allowed .order-some);
-    few = omega (arith, G .allowed .order-few);
+  pub differs : {row : List ℤ} → IsRow z row → (i : ℕ) → i < n - z → Differs row z 1 i ps
+  differs R i h = record {
+    coefficients = row-coefficients R (omega (arith, G .allowed .order-few));
     inside = omega (arith, G .proposed .count, order-less);
-    rates = λ m k. G .proposed .value (i + m) (omega (arith, order-less));
+    rates = λ m k. G .proposed .value (i + m * 1) (omega (arith, order-less));
   }
 
 -- the differences of a table, by the job's order
 module _ {ws ps : List ℤ} (G : Given ws ps) where
-  at-order : (i : ℕ) → differenceOn ws ps i ≡ differenceOf (jobOf ws .order) (wordAt ps) i
-  at-order i = sym (difference-is (jobOf ws) (wordAt ps) i)
+  rated : (i : ℕ) → i < cellsOf ws - jobOf ws .order → (m : ℕ) → m ≤ jobOf ws .order → Upto 1000000 (wordAt ps (i + m * 1))
+  rated i h m k = G .proposed .value (i + m * 1) (omega (arith, G .allowed .order-less))
 
   each-small : (i : ℕ) → i < cellsOf ws - jobOf ws .order → natAbs (differenceOn ws ps i) ≤ 8000000
-  each-small i h = subst (λ (x : ℤ). natAbs x ≤ 8000000) (sym (at-order i)) (difference-small (differs G refl refl i h))
+  each-small i h = difference-small (jobOf ws .order) 1 i (wordAt ps) (G .allowed .order-some) (G .allowed .order-few) (rated i h)
 
   each-less : jobOf ws .order ≤ 3 → (i : ℕ) → i < cellsOf ws - jobOf ws .order → natAbs (differenceOn ws ps i) ≤ 4000000
-  each-less k i h = subst (λ (x : ℤ). natAbs x ≤ 4000000) (sym (at-order i)) (difference-less (differs G refl refl i h) k)
+  each-less k i h = difference-less (jobOf ws .order) 1 i (wordAt ps) (G .allowed .order-some) (G .allowed .order-few) (rated i h) k
 
   abbrev roughOn : ℤ
   roughOn = sum (cellsOf ws - jobOf ws .order) (λ i. squared (differenceOn ws ps i))

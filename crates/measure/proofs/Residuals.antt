@@ -11,26 +11,24 @@ use lib.ListN.{length}
 use lib.Signed.{_≤ℤ_, leZ, leZ-yes}
 use mir.Syntax.{w64}
 use mir.Val.{SFits, toZ, ofZ}
-use Rattle.whole.proofs.Sums.{sum-cong, sum-ext}
-use Rattle.whole.proofs.Rows.{sum-size}
 use Rattle.whole.proofs.Magnitude.{bound-+, bound--, bound-*}
 use Rattle.whole.proofs.Fits.{Holds, Adds, small-fits, gives}
 use Rattle.numbers.proofs.Clash.{clash}
 use Rattle.certificate.specs.Terms.{cellTerm}
-use Rattle.certificate.specs.Differences.{earlier, returned}
-use Rattle.certificate.proofs.Differences.{returned-is-gathered}
+use Rattle.certificate.specs.Differences.{along, earlier, gathered}
+use Rattle.certificate.proofs.Differences.{returned-is-gathered, gathered-cong, gathered-size}
 use Rattle.certificate.proofs.Terms.{cell-terms-not-negative}
-use Rattle.jobs.specs.Job.{Job}
 use Rattle.jobs.specs.Words.{wordAt, cellsOf, linksOf, jobOf}
 use Rattle.jobs.specs.Allowed.{Upto}
 use Rattle.jobs.proofs.Places.{cells-inside}
-use Rattle.rows.specs.Rows.{rowOf}
+use Rattle.rows.specs.Rows.{rowOf, IsRow}
 use Rattle.measure.specs.Loss.{familyOf}
 use Rattle.measure.specs.Gap.{limit, residualOf}
-use Rattle.measure.specs.Given.{Differences, Slopes, ResidualAt, CellAt, CellNumbers, Settles, Totalling}
-use Rattle.measure.specs.Running.{gatheredOf, settledOf, runOf}
+use Rattle.measure.specs.Given.{Differences, Gathers, Slopes, ResidualAt, CellAt, CellNumbers, Settles, Totalling}
+use Rattle.measure.specs.Running.{settledOf, runOf}
 use Rattle.measure.proofs.Places.{read, rate-read, weight-read}
-use Rattle.rows.proofs.Rule.{row-small, row-size, row-fits}
+use Rattle.rows.proofs.Rule.{row-size}
+use Rattle.measure.proofs.Table.{coefficient-read, row-coefficients, row-gathered}
 use Rattle.measure.proofs.Losses.{measured-differences}
 use Rattle.measure.proofs.Terms.{cell-small, true-T}
 use Rattle.measure.proofs.Totals.{Runs, settles-call, settles-next}
@@ -40,54 +38,42 @@ use Rattle.measure.specs.OnWords.{differenceOn, smoothOn, linkPartOn, re
 -- ---- the gathered differences
 
 module _ {count : ℕ} {d : List ℤ} (S : Differences count d) (i : ℕ) where
-  earlier-small : (m : ℕ) → natAbs (earlier (wordAt d) count i m) ≤ 8000000
-  earlier-small m = go (leb m i) (ltb (i - m) count) (λ t. ltb→lt (i - m) count t)
+  earlier-small : (k : ℕ) → natAbs (earlier (wordAt d) count i k) ≤ 8000000
+  earlier-small k = go (leb k i) (ltb (i - k) count) (λ t. ltb→lt (i - k) count t)
     where
-      go : (a b : Bool) → (T b → i - m < count) → natAbs (cond a (cond b (wordAt d (i - m)) (pos 0)) (pos 0)) ≤ 8000000
-      go true true f = S .each (i - m) (f tt) .small
+      go : (a b : Bool) → (T b → i - k < count) → natAbs (cond a (cond b (wordAt d (i - k)) (pos 0)) (pos 0)) ≤ 8000000
+      go true true f = S .each (i - k) (f tt) .small
       go true false f = zero-le
       go false b f = zero-le
 
-  earlier-fits : (m : ℕ) → SFits w64 (earlier (wordAt d) count i m)
-  earlier-fits m = small-fits (earlier (wordAt d) count i m) (earlier-small m) (lit< tt)
+  earlier-fits : (k : ℕ) → SFits w64 (earlier (wordAt d) count i k)
+  earlier-fits k = small-fits (earlier (wordAt d) count i k) (earlier-small k) (lit< tt)
 
-  module _ (z : ℕ) (h : z ≤ 4) where
-    pub gathered-adds : Adds (λ m. rowOf z m *ℤ earlier (wordAt d) count i m) (suc z) 48000000
-    gathered-adds = record {
-      small = λ m l. bound-* (rowOf z m) (earlier (wordAt d) count i m) (row-small z m h (omega arith)) (earlier-small m);
-      room = omega arith;
-    }
+  gathered-small : (z stride : ℕ) → z ≤ 4 → natAbs (gathered (along (rowOf z) z stride count) (wordAt d) i) ≤ 128000000
+  gathered-small z stride h =
+      N.le-trans (gathered-size (along (rowOf z) z stride count) (wordAt d) i 8000000 (λ f l. S .each f l .small))
+      (N.mul-le-mul-right 8000000 (row-size z h))
 
-    pub gathered-term-fits : (m : ℕ) → m ≤ z → SFits w64 (rowOf z m *ℤ earlier (wordAt d) count i m)
-    gathered-term-fits m k = small-fits (rowOf z m *ℤ earlier (wordAt d) count i m) (gathered-adds .small m (omega arith)) (lit< tt)
+module _ {row : List ℤ} {z stride count : ℕ} {d : List ℤ} (S : Gathers row z stride count d) (i : ℕ) where
+  pub gathered-adds : Adds (λ m. wordAt row m *ℤ earlier (wordAt d) count i (m * stride)) (suc z) 8000000000
+  gathered-adds = record {
+    small = λ m l.
+        bound-* (wordAt row m) (earlier (wordAt d) count i (m * stride)) (S .coefficients .small m (N.le-of-suc-le-suc l))
+        (earlier-small (S .differences) i (m * stride));
+    room = omega (arith, S .coefficients .few);
+  }
 
-    -- the product of the code, with the coefficient and the difference that it has
-    pub gathered-term-is : {m : ℕ} {c e : ℤ} → m ≤ z → c ≡ rowOf z m → e ≡ earlier (wordAt d) count i m
-        → read c *ℤ read e ≡ rowOf z m *ℤ earlier (wordAt d) count i m
-    gathered-term-is {m} k p q = ap₂ _*ℤ_ (gives p (row-fits z m h (omega arith))) (gives q (earlier-fits m))
+  module _ {m : ℕ} (h : m ≤ z) where
+    pub gathered-step : m * stride ≤ 480
+    gathered-step = N.le-trans (N.mul-le-mul (N.le-trans h (S .coefficients .few)) (S .near)) (N.le-refl 480)
 
-    gathered-small : natAbs (gatheredOf z count (wordAt d) i) ≤ 128000000
-    unfolding gatheredOf
-    gathered-small =
-        N.le-trans (sum-size (suc z) (rowOf z) (λ m. earlier (wordAt d) count i m) 8000000 (λ m l. earlier-small m))
-        (N.mul-le-mul-right 8000000 (row-size z h))
+    pub gathered-term-fits : SFits w64 (wordAt row m *ℤ earlier (wordAt d) count i (m * stride))
+    gathered-term-fits = small-fits (wordAt row m *ℤ earlier (wordAt d) count i (m * stride)) (gathered-adds .small m (omega arith)) (lit< tt)
 
--- by equal differences
-gathered-cong : (D E : ℕ → ℤ) (z count i : ℕ) → ((f : ℕ) → f < count → D f ≡ E f) → gatheredOf z count D i ≡ gatheredOf z count E i
-unfolding gatheredOf
-gathered-cong D E z count i h = sum-cong (suc z) (λ m l. ap (λ (x : ℤ). rowOf z m *ℤ x) (go m (leb m i) (ltb (i - m) count) (λ t. ltb→lt (i - m) count t)))
-  where
-    go : (m : ℕ) (a b : Bool) → (T b → i - m < count) → cond a (cond b (D (i - m)) (pos 0)) (pos 0) ≡ cond a (cond b (E (i - m)) (pos 0)) (pos 0)
-    go m true true f = h (i - m) (f tt)
-    go m true false f = refl
-    go m false b f = refl
-
--- what code gathers is what the rule returns
-gathered-is : (j : Job) (D : ℕ → ℤ) (i : ℕ) → gatheredOf (j .order) (j .cells - j .order) D i ≡ returned (familyOf j) D i
-unfolding gatheredOf
-gathered-is j D i =
-    sum-ext (suc (j .order)) (λ m. ap (λ (k : ℕ). rowOf (j .order) m *ℤ earlier D (j .cells - j .order) i k) (sym (N.mul-one m)))
-    ∙ sym (returned-is-gathered (familyOf j) D i (λ f l. refl))
+    -- the product of the code, with the difference that it has
+    pub gathered-term-is : {e : ℤ} → e ≡ earlier (wordAt d) count i (m * stride)
+        → read (wordAt row m) *ℤ read e ≡ wordAt row m *ℤ earlier (wordAt d) count i (m * stride)
+    gathered-term-is q = ap₂ _*ℤ_ (coefficient-read (S .coefficients) h) (gives q (earlier-fits (S .differences) i (m * stride)))
 
 -- ---- the residual
 
@@ -179,21 +165,28 @@ module _ {ws ps : List ℤ} {n z : ℕ} {d : List ℤ} {i : ℕ} {part : ℤ} (R
   inside : i < cellsOf ws
   inside = subst (λ (x : ℕ). i < x) (R .measured .n-is) (R .inside)
 
-  pub residual-differences : Differences (n - z) d × (z ≤ 4)
-  residual-differences = (measured-differences (R .measured), omega (arith, R .measured .z-is, R .measured .given .allowed .order-few))
+  few : z ≤ 4
+  few = omega (arith, R .measured .z-is, R .measured .given .allowed .order-few)
+
+  pub residual-gathers : {row : List ℤ} → IsRow z row → Gathers row z 1 (n - z) d
+  residual-gathers q = record { coefficients = row-coefficients q few; near = omega arith; differences = measured-differences (R .measured) }
+
+  -- what the code gathers, by the row that it has
+  pub residual-row : {row : List ℤ} → IsRow z row → {s : ℤ} → s ≡ gathered (along (wordAt row) z 1 (n - z)) (wordAt d) i → s ≡ gathered (along (rowOf z) z 1 (n - z)) (wordAt d) i
+  residual-row q e = e ∙ row-gathered q 1 (n - z) (wordAt d) i
 
   pub residual-words : 7 + 4 * i < length ws
   residual-words = omega (arith, inside, cells-inside (R .measured .given .laid))
 
   -- with the constant and the gathered differences that the code has
-  module _ {k s : ℤ} (ek : k ≡ jobOf ws .constant) (es : s ≡ gatheredOf z (n - z) (wordAt d) i) where
+  module _ {k s : ℤ} (ek : k ≡ jobOf ws .constant) (es : s ≡ gathered (along (rowOf z) z 1 (n - z)) (wordAt d) i) where
     slopes : Slopes (jobOf ws .weight i) (wordAt ps i) (jobOf ws .crude i) k s part
     slopes = record {
       w-in = R .measured .given .allowed .cell i inside .weight;
       v-in = R .measured .given .proposed .value i inside;
       u-in = R .measured .given .allowed .cell i inside .crude;
       k-in = subst (λ (x : ℤ). Upto 1000 x) (sym ek) (R .measured .given .allowed .constant);
-      s-small = subst (λ (x : ℤ). natAbs x ≤ 128000000) (sym es) (gathered-small (residual-differences .0) i z (residual-differences .1));
+      s-small = subst (λ (x : ℤ). natAbs x ≤ 128000000) (sym es) (gathered-small (measured-differences (R .measured)) i z 1 few);
       part-small = R .part-small;
     }
 
@@ -201,9 +194,9 @@ module _ {ws ps : List ℤ} {n z : ℕ} {d : List ℤ} {i : ℕ} {part : ℤ} (R
     smooth-is =
         ap₂ (λ (a b : ℤ). pos 2 *ℤ a *ℤ b) ek
         (es
-        ∙ gathered-cong (wordAt d) (differenceOn ws ps) z (n - z) i (R .measured .at)
-        ∙ ap₂ (λ (n z : ℕ). gatheredOf z (n - z) (differenceOn ws ps) i) (R .measured .n-is) (R .measured .z-is)
-        ∙ gathered-is (jobOf ws) (differenceOn ws ps) i)
+        ∙ gathered-cong (along (rowOf z) z 1 (n - z)) (wordAt d) (differenceOn ws ps) i (R .measured .at)
+        ∙ ap₂ (λ (n z : ℕ). gathered (along (rowOf z) z 1 (n - z)) (differenceOn ws ps) i) (R .measured .n-is) (R .measured .z-is)
+        ∙ sym (returned-is-gathered (familyOf (jobOf ws)) (differenceOn ws ps) i (λ f l. refl)))
 
     pub residual-call : Slopes (read (jobOf ws .weight i)) (read (wordAt ps i)) (read (jobOf ws .crude i)) (read k) (read s) (read part)
     residual-call = slopes-call slopes
@@ -295,8 +288,8 @@ module _ {ws ps : List ℤ} {n z : ℕ} {d parts : List ℤ} {start : ℤ} (H : 
   unfolding residualOf
   residual-small i h =
       subst (λ (x : ℤ). natAbs (pos 2 *ℤ jobOf ws .weight i *ℤ (wordAt ps i -ℤ jobOf ws .crude i) +ℤ x +ℤ linkPartOn ws ps i) ≤ 7000000000000)
-      (smooth-is (plain-at i h) {k = jobOf ws .constant} {s = gatheredOf z (n - z) (wordAt d) i} refl refl)
-      (N.le-trans (slopes-small (slopes (plain-at i h) {k = jobOf ws .constant} {s = gatheredOf z (n - z) (wordAt d) i} refl refl)) (leb→le 6660000000000 7000000000000 tt))
+      (smooth-is (plain-at i h) {k = jobOf ws .constant} {s = gathered (along (rowOf z) z 1 (n - z)) (wordAt d) i} refl refl)
+      (N.le-trans (slopes-small (slopes (plain-at i h) {k = jobOf ws .constant} {s = gathered (along (rowOf z) z 1 (n - z)) (wordAt d) i} refl refl)) (leb→le 6660000000000 7000000000000 tt))
 
   cell-at : (i : ℕ) → i < n → CellAt ws ps i (residualOn ws ps i)
   cell-at i h = record { given = H .measured .given; inside = subst (λ (x : ℕ). i < x) (H .measured .n-is) h; r-small = residual-small i h }

@@ -15,8 +15,10 @@ use mir.Val.{SFits}
 use Rattle.numbers.specs.Choice.{if_then_else_}
 use Rattle.numbers.proofs.Clash.{clash}
 use Rattle.whole.specs.Sum.{sum}
+use Rattle.certificate.specs.Differences.{formAt}
 use Rattle.whole.proofs.Fits.{small-fits, gives}
 use Rattle.jobs.specs.Words.{wordAt, cellsOf, linksOf, jobOf}
+use Rattle.rows.specs.Rows.{rowOf, IsRow}
 use Rattle.jobs.proofs.Places.{zeros-at, cells-inside}
 use Rattle.measure.specs.declared.check.Verdict.{Verdict}
 use Rattle.measure.specs.declared.check.Verdict.the-variants.{Accepted, Refused}
@@ -25,9 +27,9 @@ use Rattle.measure.specs.declared.links.Walked.the-variants.{Broken, Hel
 use Rattle.measure.specs.Gap.{gapOf}
 use Rattle.measure.specs.Check.{lowestFailing, verdictOf}
 use Rattle.measure.specs.Given.{Given, Differs, Measured, Walking, Totalling, Boxes, Judging}
-use Rattle.measure.specs.Running.{differenceOf, Filled, Added, runOf, walkOf, onWalked}
+use Rattle.measure.specs.Running.{Filled, Added, runOf, walkOf, onWalked}
 use Rattle.measure.proofs.Places.{read, rate-read, tolerance-fits}
-use Rattle.measure.proofs.Table.{difference-is}
+use Rattle.measure.proofs.Table.{row-form}
 use Rattle.measure.proofs.Losses.{differs, loss-in-64}
 use Rattle.measure.proofs.Terms.{true-T}
 use Rattle.measure.proofs.Totals.{Runs, run-least, run-small, run-fits, Tells, tells-start, run-tells, not-le-lt, lt-not-le}
@@ -148,17 +150,20 @@ module _ {ws ps : List ℤ} {n : ℕ} (B : Boxes ws ps n) where
 -- ---- 9, or the loss and the gap
 
 module _ {ws ps : List ℤ} {n : ℕ} {total : ℤ} {parts : List ℤ} (J : Judging ws ps n total parts) {z : ℕ} (ez : z ≡ jobOf ws .order) where
-  pub judge-differs : ((i : ℕ) → i < n - z → Differs z i ps) × (n - z ≤ length (replicate 120 (pos 0)))
-  judge-differs = (differs (J .table .given) (J .table .n-is) ez, omega (arith, room-is (J .table)))
+  pub judge-few : z ≤ 4
+  judge-few = omega (arith, ez, J .table .given .allowed .order-few)
 
-  module _ {d : List ℤ} (F : Filled (n - z) (differenceOf z (wordAt ps)) (replicate 120 (pos 0)) d) where
+  pub judge-differs : {row : List ℤ} → IsRow z row → ((i : ℕ) → i < n - z → Differs row z 1 i ps) × (n - z ≤ length (replicate 120 (pos 0)))
+  judge-differs q = (differs (J .table .given) (J .table .n-is) ez q, omega (arith, room-is (J .table)))
+
+  module _ {row : List ℤ} (q : IsRow z row) {d : List ℤ} (F : Filled (n - z) (λ i. formAt (wordAt row) z 1 i (wordAt ps)) (replicate 120 (pos 0)) d) where
     pub judge-measured : Measured ws ps n z d
     judge-measured = record {
       given = J .table .given;
       n-is = J .table .n-is;
       z-is = ez;
       room = omega (arith, room-is (J .table), F .long);
-      at = λ i h. F .at i h ∙ ap (λ (z : ℕ). differenceOf z (wordAt ps) i) ez ∙ difference-is (jobOf ws) (wordAt ps) i;
+      at = λ i h. F .at i h ∙ row-form q 1 i (wordAt ps) ∙ ap (λ (z : ℕ). formAt (rowOf z) z 1 i (wordAt ps)) ez;
     }
 
     linked : Runs (jobOf ws .tolerance) (pos 0) (linkTermOn ws ps) (linksOf ws)

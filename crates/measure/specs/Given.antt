@@ -18,12 +18,16 @@ pub record Given (ws ps : List ℤ) : Type 0 where
   pub laid : Laid ws
   pub proposed : Proposed (cellsOf ws) (linksOf ws) ps
 
--- The rates that the difference of order z at the cell i uses.
-pub record Differs (z i : ℕ) (v : List ℤ) : Type 0 where
-  pub some : 1 ≤ z
+-- The coefficients of a row of order z, whichever they are.
+pub record Coefficients (z : ℕ) (row : List ℤ) : Type 0 where
   pub few : z ≤ 4
-  pub inside : i + z < length v
-  pub rates : (m : ℕ) → m ≤ z → Upto 1000000 (wordAt v (i + m))
+  pub small : (m : ℕ) → m ≤ z → natAbs (wordAt row m) ≤ 1000
+
+-- A row and the rates that its difference at the cell i uses.
+pub record Differs (row : List ℤ) (z stride i : ℕ) (v : List ℤ) : Type 0 where
+  pub coefficients : Coefficients z row
+  pub inside : i + z * stride < length v
+  pub rates : (m : ℕ) → m ≤ z → Upto 1000000 (wordAt v (i + m * stride))
 
 -- A difference of rates, and a list that starts with so many.
 pub record Difference (d : ℤ) : Type 0 where
@@ -33,6 +37,12 @@ pub record Differences (count : ℕ) (d : List ℤ) : Type 0 where
   pub few : count ≤ 119
   pub inside : count ≤ length d
   pub each : (i : ℕ) → i < count → Difference (wordAt d i)
+
+-- A row and the differences from which a cell gets back.
+pub record Gathers (row : List ℤ) (z stride count : ℕ) (d : List ℤ) : Type 0 where
+  pub coefficients : Coefficients z row
+  pub near : stride ≤ 120
+  pub differences : Differences count d
 
 -- The parts of a loss.
 pub record LossParts (fit k rough : ℤ) : Type 0 where

@@ -1,5 +1,5 @@
--- What the steps inside the check come to: differences and gathered differences of a plain order, parts added to a lent list, and the running total
--- that is settled once it passes the tolerance.
+-- What the steps inside the check come to: a lent list that is filled, parts that are added to one, and the running total that is settled once it
+-- passes the tolerance.
 use Prim.Native.Nat.{ℕ, zero, suc, _+_, _*_, _≤_, _<_}
 use mathlib.Core.Path.{_≡_}
 use mathlib.Core.List.{List}
@@ -9,24 +9,14 @@ use lib.ListN.{length}
 use lib.Signed.{leZ}
 use Rattle.numbers.specs.Choice.{if_then_else_}
 use Rattle.whole.specs.Sum.{sum, coefficientOf}
-use Rattle.certificate.specs.Differences.{earlier}
 use Rattle.jobs.specs.Job.{Job}
 use Rattle.jobs.specs.Words.{wordAt, countAt}
 use Rattle.measure.specs.declared.check.Verdict.{Verdict}
 use Rattle.measure.specs.declared.check.Verdict.the-variants.{Refused}
 use Rattle.measure.specs.declared.links.Walked.{Walked}
 use Rattle.measure.specs.declared.links.Walked.the-variants.{Broken, Held}
-use Rattle.rows.specs.Rows.{rowOf}
 use Rattle.measure.specs.Gap.{linkCoefficient, linkTermOf}
 use Rattle.measure.specs.Check.{lowestFailing, holds}
-
--- D at i, of the order z.
-unfoldable pub differenceOf : (z : ℕ) → (v : ℕ → ℤ) → (i : ℕ) → ℤ
-differenceOf z v i = sum (suc z) (λ m. rowOf z m *ℤ v (i + m))
-
--- The sum, over every one of `count` differences D of order z that uses the cell i, of D times that cell's s.
-unfoldable pub gatheredOf : (z count : ℕ) → (D : ℕ → ℤ) → (i : ℕ) → ℤ
-gatheredOf z count D i = sum (suc z) (λ m. rowOf z m *ℤ earlier D count i m)
 
 -- The first n words of a list are set by a rule, and the others stay.
 pub record Filled (n : ℕ) (rule : ℕ → ℤ) (before after : List ℤ) : Type 0 where

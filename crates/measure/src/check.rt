@@ -34,8 +34,9 @@ fn judged(words: &[i64], proposal: &[i64], n: usize, total: i64, parts: &[i64]) 
 {
     let mut d = [0i64; 120];
     let z = words::order_of(words);
-    loss::differences(proposal, z, n - z, &mut d);
-    let g = gap::total_of(words, proposal, n, z, &d, parts, total);
+    let row = rows::row_of(z);
+    loss::differences(proposal, &row, z, 1, n - z, &mut d);
+    let g = gap::total_of(words, proposal, n, z, &row, &d, parts, total);
     let t = words::tolerance_of(words);
     if g <= t {
         let f = loss::loss(words, proposal, n, z, &d);

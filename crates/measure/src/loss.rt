@@ -1,52 +1,62 @@
 // Differences and loss (document 01, "Loss and gap"). A table is given by its values, the first words of a proposal.
 ghost use mathlib.Core.Path.{_≡_};
-ghost use Prim.Native.Nat.{ℕ, _+_, _-_, _≤_, _<_};
+ghost use Prim.Native.Nat.{ℕ, _+_, _*_, _≤_, _<_};
 ghost use lib.IntN.{_+ℤ_, _*ℤ_};
 ghost use lib.ListN.{length};
 ghost use Rattle.whole.specs.Sum.{sum};
 ghost use Rattle.certificate.specs.Problem.{squared};
+ghost use Rattle.certificate.specs.Differences.{formAt};
 ghost use Rattle.jobs.specs.Words.{wordAt, cellsOf};
-ghost use Rattle.rows.specs.Rows.{rowOf, IsRow};
 ghost use Rattle.measure.specs.Given.{Given, Differs, Difference, Differences, LossParts, Measured};
-ghost use Rattle.measure.specs.Running.{differenceOf, Filled};
+ghost use Rattle.measure.specs.Running.{Filled};
 ghost use Rattle.measure.specs.OnWords.{fitTermOn, fitOn, lossOn};
 use jobs::words;
 
-// s(m) times v(i + m).
-fn difference_term(values: &[i64], row: &[i64; 5], z: usize, i: usize, m: usize) -> i64
-    requires { ⌜ Differs z i (now values) × (m ≤ z) × IsRow z (now row) ⌝ }
-    ensures { λ r. ⌜ r ≡ rowOf z m *ℤ wordAt (now (values .entry)) (i + m) ⌝ }
+// The row's coefficient m times the rate that it falls on.
+fn difference_term(
+    values: &[i64],
+    row: &[i64; 5],
+    z: usize,
+    stride: usize,
+    i: usize,
+    m: usize,
+) -> i64
+    requires { ⌜ Differs (now row) z stride i (now values) × (m ≤ z) ⌝ }
+    ensures { λ r. ⌜ r ≡ wordAt (now (row .entry)) m *ℤ wordAt (now (values .entry)) (i + m * stride) ⌝ }
 {
-    let at = i + m;
+    let at = i + m * stride;
     row[m] * values[at]
 }
 
-// D at i, of the order z.
-pub fn difference_at(values: &[i64], row: &[i64; 5], z: usize, i: usize) -> i64
-    requires { ⌜ Differs z i (now values) × IsRow z (now row) ⌝ }
-    ensures { λ r. ⌜ r ≡ differenceOf z (wordAt (now (values .entry))) i ⌝ }
+// D at i, of any row, order and stride.
+pub fn difference_at(values: &[i64], row: &[i64; 5], z: usize, stride: usize, i: usize) -> i64
+    requires { ⌜ Differs (now row) z stride i (now values) ⌝ }
+    ensures { λ r. ⌜ r ≡ formAt (wordAt (now (row .entry))) z stride i (wordAt (now (values .entry))) ⌝ }
 {
     let mut total: i64 = 0;
     let mut m: usize = 0;
     while m <= z {
-        total += difference_term(values, row, z, i, m);
+        total += difference_term(values, row, z, stride, i, m);
         m += 1;
     }
     total
 }
 
-// The first `count` differences, each computed once, at the head of `out`. Where there are none, z may be any number, and no row is taken.
-pub fn differences(values: &[i64], z: usize, count: usize, out: &mut [i64])
-    requires { ⌜ ((i : ℕ) → i < count → Differs z i (now values)) × (count ≤ length (now out)) ⌝ }
-    ensures { λ _. ⌜ Filled count (differenceOf z (wordAt (now (values .entry)))) (now (out .entry)) (now (out .exit)) ⌝ }
+// The first `count` differences, each computed once, at the head of `out`.
+pub fn differences(
+    values: &[i64],
+    row: &[i64; 5],
+    z: usize,
+    stride: usize,
+    count: usize,
+    out: &mut [i64],
+)
+    requires { ⌜ ((i : ℕ) → i < count → Differs (now row) z stride i (now values)) × (count ≤ length (now out)) ⌝ }
+    ensures { λ _. ⌜ Filled count (λ i. formAt (wordAt (now (row .entry))) z stride i (wordAt (now (values .entry)))) (now (out .entry)) (now (out .exit)) ⌝ }
 {
-    if count == 0 {
-        return;
-    }
-    let row = rows::row_of(z);
     let mut i: usize = 0;
     while i < count {
-        out[i] = difference_at(values, &row, z, i);
+        out[i] = difference_at(values, row, z, stride, i);
         i += 1;
     }
 }

@@ -1,22 +1,21 @@
 // The residual of a cell (document 01, "Loss and gap"), from the differences that use the cell and the link part.
 ghost use mathlib.Core.Path.{_≡_};
-ghost use Prim.Native.Nat.{_-_, _≤_};
+ghost use Prim.Native.Nat.{_*_, _≤_};
 ghost use lib.IntN.{pos, _+ℤ_, _-ℤ_, _*ℤ_};
-ghost use Rattle.certificate.specs.Differences.{earlier};
+ghost use Rattle.certificate.specs.Differences.{along, earlier, gathered};
 ghost use Rattle.jobs.specs.Words.{wordAt};
-ghost use Rattle.rows.specs.Rows.{rowOf, IsRow};
-ghost use Rattle.measure.specs.Given.{Differences, Slopes, ResidualAt};
-ghost use Rattle.measure.specs.Running.{gatheredOf};
+ghost use Rattle.rows.specs.Rows.{IsRow};
+ghost use Rattle.measure.specs.Given.{Differences, Gathers, Slopes, ResidualAt};
 ghost use Rattle.measure.specs.OnWords.{residualWith};
 use jobs::words;
 
-// The difference at i - m, 0 where there is none.
-fn earlier_of(d: &[i64], count: usize, i: usize, m: usize) -> i64
+// The difference k cells before i, 0 where there is none.
+fn earlier_of(d: &[i64], count: usize, i: usize, k: usize) -> i64
     requires { ⌜ Differences count (now d) ⌝ }
-    ensures { λ r. ⌜ r ≡ earlier (wordAt (now (d .entry))) count i m ⌝ }
+    ensures { λ r. ⌜ r ≡ earlier (wordAt (now (d .entry))) count i k ⌝ }
 {
-    if m <= i {
-        let f = i - m;
+    if k <= i {
+        let f = i - k;
         if f < count {
             return d[f];
         }
@@ -25,23 +24,31 @@ fn earlier_of(d: &[i64], count: usize, i: usize, m: usize) -> i64
     0
 }
 
-// s(m) times the difference at i - m.
-fn gathered_term(d: &[i64], row: &[i64; 5], count: usize, z: usize, i: usize, m: usize) -> i64
-    requires { ⌜ Differences count (now d) × (z ≤ 4) × (m ≤ z) × IsRow z (now row) ⌝ }
-    ensures { λ r. ⌜ r ≡ rowOf z m *ℤ earlier (wordAt (now (d .entry))) count i m ⌝ }
+// The row's coefficient m times the difference that uses the cell i with it.
+fn gathered_term(
+    d: &[i64],
+    row: &[i64; 5],
+    count: usize,
+    z: usize,
+    stride: usize,
+    i: usize,
+    m: usize,
+) -> i64
+    requires { ⌜ Gathers (now row) z stride count (now d) × (m ≤ z) ⌝ }
+    ensures { λ r. ⌜ r ≡ wordAt (now (row .entry)) m *ℤ earlier (wordAt (now (d .entry))) count i (m * stride) ⌝ }
 {
-    row[m] * earlier_of(d, count, i, m)
+    row[m] * earlier_of(d, count, i, m * stride)
 }
 
-// The sum, over every difference that uses the cell i, of the difference times that cell's s.
-fn gathered_at(d: &[i64], row: &[i64; 5], count: usize, z: usize, i: usize) -> i64
-    requires { ⌜ Differences count (now d) × (z ≤ 4) × IsRow z (now row) ⌝ }
-    ensures { λ r. ⌜ r ≡ gatheredOf z count (wordAt (now (d .entry))) i ⌝ }
+// The sum, over every difference that uses the cell i, of the difference times that cell's coefficient; of any row, order and stride.
+fn gathered_at(d: &[i64], row: &[i64; 5], count: usize, z: usize, stride: usize, i: usize) -> i64
+    requires { ⌜ Gathers (now row) z stride count (now d) ⌝ }
+    ensures { λ r. ⌜ r ≡ gathered (along (wordAt (now (row .entry))) z stride count) (wordAt (now (d .entry))) i ⌝ }
 {
     let mut total: i64 = 0;
     let mut m: usize = 0;
     while m <= z {
-        total += gathered_term(d, row, count, z, i, m);
+        total += gathered_term(d, row, count, z, stride, i, m);
         m += 1;
     }
     total
@@ -70,7 +77,7 @@ pub fn residual_at(
     ensures { λ r. ⌜ r ≡ residualWith (now (words .entry)) (now (values .entry)) i part ⌝ }
 {
     let k = words::constant_of(words);
-    let s = gathered_at(d, row, n - z, z, i);
+    let s = gathered_at(d, row, n - z, z, 1, i);
     let base = 4 * i;
     residual_from(words[7 + base], values[i], words[6 + base], k, s, part)
 }

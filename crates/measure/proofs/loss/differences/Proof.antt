@@ -4,36 +4,31 @@ use Prim.Native.Nat.{_-_, _≤_}
 use native.Mathlib.Omega.{arith}
 use Rattle.whole.proofs.Fits.{gives}
 use Rattle.whole.proofs.Solve.{at}
+use Rattle.certificate.specs.Differences.{formAt}
 use Rattle.jobs.specs.Words.{wordAt}
 use Rattle.measure.proofs.Losses.{filled-next, filled-start}
 use Rattle.measure.proofs.Table.{difference-fits}
-use Rattle.measure.specs.Running.{Filled, differenceOf}
+use Rattle.measure.specs.Running.{Filled}
 use Rattle.measure.proofs.loss.differences.Statement.{statement}
 use Rattle.measure.proofs.loss.differences.Tie as tie
 
 abbrev Inv-loop : tie.InvT-loop
-Inv-loop values z count out₀ row i₀ out i = (i ≤ count) × Filled i (differenceOf z (wordAt values)) out₀ out
+Inv-loop values row z stride count out₀ i₀ out i = (i ≤ count) × Filled i (λ i. formAt (wordAt row) z stride i (wordAt values)) out₀ out
 
 abbrev μ-loop : tie.MeasureT-loop
-μ-loop values z count out₀ row i₀ out i = count - i
-
-returns : tie.Need-returns Inv-loop μ-loop
-returns c = let e : c .before .args .count ≡ 0 = omega arith in rw e (filled-start _ _)
-
-row-of-requires : tie.Need-row-of-requires Inv-loop μ-loop
-row-of-requires c κs = c .before .pre .0 0 (omega arith) .few
+μ-loop values row z stride count out₀ i₀ out i = count - i
 
 loop-holds : tie.Need-loop-holds Inv-loop μ-loop
 loop-holds c = (omega arith, filled-start _ _)
 
 difference-at-requires : tie.Need-difference-at-requires Inv-loop μ-loop
-difference-at-requires c κs = (c .before .before .before .before .before .pre .0 (c .before .before .loop .i) (omega arith), c .before .before .before .row-of .ensures)
+difference-at-requires c κs = c .before .before .pre .0 (c .before .loop .i) (omega arith)
 
-mul-t12 : tie.Need-mul-t12 Inv-loop μ-loop
-mul-t12 c = omega arith
+mul-t10 : tie.Need-mul-t10 Inv-loop μ-loop
+mul-t10 c = omega arith
 
 slice-set-from-out : tie.Need-slice-set-from-out Inv-loop μ-loop
-slice-set-from-out c = omega (arith, c .before .before .before .before .before .before .pre .1, c .before .before .before .loop .inv .1 .long)
+slice-set-from-out c = omega (arith, c .before .before .before .pre .1, c .before .before .loop .inv .1 .long)
 
 add-i : tie.Need-add-i Inv-loop μ-loop
 add-i c = omega arith
@@ -43,15 +38,15 @@ loop-less c = omega arith
 
 loop-again : tie.Need-loop-again Inv-loop μ-loop
 loop-again c =
-    let head = c .before .before .before in
-    let s = head .before .before .before in
+    let head = c .before .before in
+    let s = head .before in
     (omega arith, filled-next (head .loop .inv .1) (omega (arith, s .pre .1)) (gives (c .difference-at .ensures) (difference-fits (s .pre .0 (head .loop .i) (omega arith)))))
 
 same-length : tie.Need-same-length Inv-loop μ-loop
 same-length c = c .before .loop .inv .1 .long
 
-returns-2 : tie.Need-returns-2 Inv-loop μ-loop
-returns-2 c = let e : c .before .loop .i ≡ c .before .before .before .before .args .count = omega arith in rw e at (c .before .loop .inv .1)
+returns : tie.Need-returns Inv-loop μ-loop
+returns c = let e : c .before .loop .i ≡ c .before .before .args .count = omega arith in rw e at (c .before .loop .inv .1)
 
 pub differences-spec : {M : Type 1} → statement M
 differences-spec =
@@ -59,14 +54,12 @@ differences-spec =
     (tie.spec
     Inv-loop
     μ-loop
-    returns
-    row-of-requires
     loop-holds
     difference-at-requires
-    mul-t12
+    mul-t10
     slice-set-from-out
     add-i
     loop-less
     loop-again
     same-length
-    returns-2)
+    returns)

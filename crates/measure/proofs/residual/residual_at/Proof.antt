@@ -1,7 +1,7 @@
 -- The words of the cell, the constant and the gathered differences, each in its range.
 use native.Mathlib.Omega.{arith}
 use borrow.Author.Needs.{needs}
-use Rattle.measure.proofs.Residuals.{residual-call, residual-differences, residual-result, residual-words}
+use Rattle.measure.proofs.Residuals.{residual-call, residual-gathers, residual-result, residual-row, residual-words}
 use Rattle.measure.proofs.residual.residual_at.Statement.{statement}
 use Rattle.measure.proofs.residual.residual_at.Tie as tie
 
@@ -12,7 +12,7 @@ sub-gathered-at : tie.Need-sub-gathered-at
 sub-gathered-at c = search needs
 
 gathered-at-requires : tie.Need-gathered-at-requires
-gathered-at-requires c κs = let d = residual-differences (c .before .pre .0) in (d .0, d .1, c .before .pre .1)
+gathered-at-requires c κs = residual-gathers (c .before .pre .0) (c .before .pre .1)
 
 mul-base : tie.Need-mul-base
 mul-base c = search needs
@@ -42,10 +42,14 @@ shared-slice-copy-out-residual-from-3 : tie.Need-shared-slice-copy-out-residual-
 shared-slice-copy-out-residual-from-3 c = omega (arith, residual-words (c .before .before .before .before .pre .0))
 
 residual-from-requires : tie.Need-residual-from-requires
-residual-from-requires c κs = residual-call (c .before .before .before .before .before .pre .0) (c .before .before .before .before .constant-of .ensures) (c .before .before .before .gathered-at .ensures)
+residual-from-requires c κs =
+    let s = c .before .before .before .before .before in
+    residual-call (s .pre .0) (c .before .before .before .before .constant-of .ensures) (residual-row (s .pre .0) (s .pre .1) (c .before .before .before .gathered-at .ensures))
 
 returns : tie.Need-returns
-returns c = residual-result (c .before .before .before .before .before .before .pre .0) (c .before .before .before .before .before .constant-of .ensures) (c .before .before .before .before .gathered-at .ensures) (c .residual-from .ensures)
+returns c =
+    let s = c .before .before .before .before .before .before in
+    residual-result (s .pre .0) (c .before .before .before .before .before .constant-of .ensures) (residual-row (s .pre .0) (s .pre .1) (c .before .before .before .before .gathered-at .ensures)) (c .residual-from .ensures)
 
 pub residual-at-spec : {M : Type 1} → statement M
 residual-at-spec =

@@ -7,6 +7,8 @@ use crate::factor::factor_band;
 use crate::rounding::round_out;
 use crate::solve::solve;
 use fields::Field;
+use jobs::job::JOB_WORDS;
+use jobs::proposal::PROPOSAL_WORDS;
 use jobs::words::cells_of;
 use jobs::words::links_of;
 use jobs::words::natural;
@@ -22,9 +24,6 @@ ghost use Rattle.jobs.specs.Words.{jobOf, cellsOf};
 ghost use Rattle.house.specs.Known.{Known};
 ghost use Rattle.house.specs.Filled.{filled};
 ghost use Rattle.house.specs.Proposal.{solvedOf, valueOf, writtenOf, proposedOf, proposeOf};
-
-// A proposal has at most so many words: a value a cell and a multiplier a link.
-const PROPOSAL_WORDS: usize = 280;
 
 // How the factoring ends, and the values before rounding; zeros where it is thin.
 pub struct Solved {
@@ -121,7 +120,7 @@ pub fn propose_for(words: &[i64], out: &mut [u8]) -> Outcome
 pub fn propose(job: &[u8], out: &mut [u8]) -> Outcome
     ensures { λ r. ⌜ (r ≡ proposeOf (length (now (out .entry))) (now (job .entry)) .outcome) × (now (out .exit) ≡ sets (now (out .entry)) 0 (proposeOf (length (now (out .entry))) (now (job .entry)) .bytes)) ⌝ }
 {
-    let mut words = [0i64; jobs::job::JOB_WORDS];
+    let mut words = [0i64; JOB_WORDS];
     let r = packs::reading::read(job, Field::Society, &mut words);
     match r {
         Outcome::Done(k) => propose_for(&words[0..k], out),

@@ -5,6 +5,9 @@ ghost use mathlib.Core.Path.{_≡_};
 ghost use Rattle.packs.specs.Reading.{Hands};
 ghost use Rattle.jobs.specs.Packs.{asSix, readProposal};
 
+// A proposal has at most so many words: a value a cell and a multiplier a link.
+pub const PROPOSAL_WORDS: usize = 280;
+
 // Every refusal of the pack's numbers is 6 in a proposal.
 fn as_six(o: Outcome) -> Outcome
     ensures { λ r. ⌜ r ≡ asSix o ⌝ }

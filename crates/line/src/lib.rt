@@ -14,6 +14,8 @@ mod table;
 
 use crate::parted::put_two;
 use crate::table::put_table;
+use jobs::job::JOB_WORDS;
+use jobs::proposal::PROPOSAL_WORDS;
 use measure::check::Verdict;
 use measure::check::check_into;
 use numbers::plain::Number;
@@ -28,8 +30,8 @@ fn put_check(job: &[u8], proposal: &[u8], out: &mut [u8]) -> usize
     requires { ⌜ 1024 ≤ length (now out) ⌝ }
     ensures { λ r. ⌜ Puts (checkedLine (checkedOf (now (job .entry)) (now (proposal .entry)))) (now (out .entry)) 0 r (now (out .exit)) ⌝ }
 {
-    let mut words = [0i64; 2087];
-    let mut rates = [0i64; 280];
+    let mut words = [0i64; JOB_WORDS];
+    let mut rates = [0i64; PROPOSAL_WORDS];
     let verdict = check_into(job, proposal, &mut words, &mut rates);
     match verdict {
         Verdict::Accepted { loss, gap } => put_table(&words, &rates, loss, gap, out),

@@ -6,6 +6,8 @@ use crate::links;
 use crate::links::Walked;
 use crate::loss;
 use fields::Field;
+use jobs::job::JOB_WORDS;
+use jobs::proposal::PROPOSAL_WORDS;
 use jobs::proposal::read_proposal;
 use jobs::words;
 use packs::Outcome;
@@ -114,8 +116,8 @@ fn check_part(words: &[i64], k: usize, proposal: &[u8], values: &mut [i64]) -> V
 pub fn check_into(
     job: &[u8],
     proposal: &[u8],
-    words: &mut [i64; 2087],
-    values: &mut [i64; 280],
+    words: &mut [i64; JOB_WORDS],
+    values: &mut [i64; PROPOSAL_WORDS],
 ) -> Verdict
     ensures { λ r. ⌜ (r ≡ checkOf (now (job .entry)) (now (proposal .entry))) × (now (words .exit) ≡ sets (now (words .entry)) 0 (readJob (now (job .entry)) .words)) × (now (values .exit) ≡ sets (now (values .entry)) 0 (proposalWords (now (job .entry)) (now (proposal .entry)))) ⌝ }
 {
@@ -130,7 +132,7 @@ pub fn check_into(
 pub fn check(job: &[u8], proposal: &[u8]) -> Verdict
     ensures { λ r. ⌜ r ≡ checkOf (now (job .entry)) (now (proposal .entry)) ⌝ }
 {
-    let mut words = [0i64; 2087];
-    let mut values = [0i64; 280];
+    let mut words = [0i64; JOB_WORDS];
+    let mut values = [0i64; PROPOSAL_WORDS];
     check_into(job, proposal, &mut words, &mut values)
 }

@@ -11,6 +11,8 @@ ghost use Rattle.shelf.specs.Given.{JobWords, Rates, Given, firstValues,
 use crate::Answer;
 use crate::societies::keep_society;
 use crate::span::plain;
+use jobs::job::JOB_WORDS;
+use jobs::proposal::PROPOSAL_WORDS;
 use measure::check::Verdict;
 use measure::check::check_into;
 use numbers::zigzag::size_of;
@@ -79,8 +81,8 @@ pub fn keep_checked(shelf: &mut [u32], job: &[u8], proposal: &[u8]) -> Answer
     ensures answer { λ r. ⌜ r ≡ keepReply (checkedOf (now (job .entry)) (now (proposal .entry))) .answer ⌝ }
     ensures shelf { λ _. ⌜ now (shelf .exit) ≡ keptShelf base (checkedOf (now (job .entry)) (now (proposal .entry))) (now (shelf .entry)) ⌝ }
 {
-    let mut words = [0i64; 2087];
-    let mut rates = [0i64; 280];
+    let mut words = [0i64; JOB_WORDS];
+    let mut rates = [0i64; PROPOSAL_WORDS];
     let verdict = check_into(job, proposal, &mut words, &mut rates);
     match verdict {
         Verdict::Accepted { loss, gap } => keep_table(shelf, &words, &rates, loss, gap),

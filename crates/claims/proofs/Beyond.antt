@@ -19,8 +19,7 @@ use Rattle.packs.proofs.Packing.{length-written}
 use Rattle.jobs.specs.Job.{Job}
 use Rattle.jobs.specs.Words.{jobOf}
 use Rattle.jobs.specs.Packs.{handedOut, readJob, readJobInto, writeJob, writeProposal}
-use Rattle.jobs.proofs.Handed.{six-done}
-use Rattle.jobs.proofs.Readings.{read-words-counted}
+use Rattle.jobs.proofs.Readings.{six-done, read-words-counted}
 use Rattle.house.specs.declared.factor.Ending.{Ending}
 use Rattle.house.specs.declared.factor.Ending.the-variants.{Whole, Thin}
 use Rattle.house.specs.Proposal.{wordsOf, onEnding, solvedOf, proposedOf, onJobRead, proposeOf}

@@ -29,8 +29,7 @@ use Rattle.jobs.specs.Words.{wordAt, jobOf}
 use Rattle.jobs.specs.Allowed.{Allowed}
 use Rattle.jobs.specs.Packs.{readJob, readProposal, writeProposal}
 use Rattle.jobs.proofs.Places.{zeros-at}
-use Rattle.jobs.proofs.Readings.{read-jobs-allowed}
-use Rattle.jobs.proofs.Handed.{six-done}
+use Rattle.jobs.proofs.Readings.{read-jobs-allowed, six-done}
 use Rattle.jobs.proofs.Trips.{proposals-read-back}
 use Rattle.house.specs.declared.factor.Ending.{Ending}
 use Rattle.house.specs.declared.factor.Ending.the-variants.{Whole, Thin}

@@ -6,21 +6,14 @@ use native.Mathlib.Omega.{arith}
 use lib.IntN.{ℤ, pos}
 use lib.ListN.{length, take, drop, replicate, length-replicate}
 use lib.Seq.{sets, sets-eq, length-sets, take-at}
-use Rattle.numbers.proofs.Clash.{clash}
-use Rattle.packs.specs.declared.Outcome.{Outcome}
 use Rattle.packs.specs.declared.Outcome.the-variants.{Done, Refused}
 use Rattle.fields.specs.declared.Field.the-variants.{Society}
 use Rattle.packs.specs.Writing.{Written, refused, inRoom, roomed}
 use Rattle.packs.specs.Walking.{numbersFrom, packed}
 use Rattle.packs.proofs.Packing.{numbers-counted, numbers-done, numbers-refused}
 use Rattle.packs.proofs.Near.{numbers-few}
-use Rattle.jobs.specs.Packs.{readJob, writeJob, handedOut, readJobInto, asSix}
+use Rattle.jobs.specs.Packs.{readJob, writeJob, handedOut, readJobInto}
 use Rattle.jobs.proofs.Readings.{read-words-counted, read-words-few}
-
--- only a proposal that is done counts as done
-pub six-done : (o : Outcome) (n : ℕ) → asSix o ≡ Done n → o ≡ Done n
-six-done (Done k) n e = e
-six-done (Refused number place) n e = clash (cc)
 
 -- ---- lent words that hold all that is stored
 

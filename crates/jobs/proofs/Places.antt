@@ -1,6 +1,6 @@
 -- Where the words of an allowed job stand, and that there are few of them; what a number from 0 to a most tells, and what room of zeros holds.
 use Prim.Native.Nat.{ℕ, zero, suc, _+_, _-_, _*_, _≤_, _<_}
-use mathlib.Core.Path.{_≡_, refl, sym, ap, subst, _∙_}
+use mathlib.Core.Path.{_≡_, refl, sym, ap, subst}
 use mathlib.Core.List.{List}
 use native.Mathlib.Nat as N
 use native.Mathlib.Omega.{arith}
@@ -10,9 +10,6 @@ use lib.Signed.{_≤ℤ_}
 use Rattle.whole.proofs.Order.{pos-nonneg, pos-mono}
 use Rattle.jobs.specs.Words.{wordAt, countAt, cellsOf, linksOf, startOf, jobOf}
 use Rattle.jobs.specs.Allowed.{Upto, Allowed, Laid}
-
-pub upto-of : {z : ℤ} {x most : ℕ} → z ≡ pos x → x ≤ most → Upto most z
-upto-of {z} {x} {most} e h = record { natural = e ∙ ap pos (sym (ap natAbs e)); small = subst (λ (n : ℕ). n ≤ most) (sym (ap natAbs e)) h }
 
 pub upto-nonneg : {most : ℕ} {z : ℤ} → Upto most z → pos 0 ≤ℤ z
 upto-nonneg {most} {z} h = subst (λ (x : ℤ). pos 0 ≤ℤ x) (sym (h .natural)) (pos-nonneg (natAbs z))

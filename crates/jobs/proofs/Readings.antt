@@ -33,10 +33,11 @@ pub read-words-few : ReadWordsFew
 read-words-few s k o = words-few (read-jobs-laid s k o) (read-jobs-allowed s k o)
 
 -- a proposal that ends well is a pack that ends well
-six-done : (o : Outcome) {k : ℕ} → asSix o ≡ Done k → o ≡ Done k
-six-done (Done n) e = e
-six-done (Refused number place) e = clash (cc)
+-- a proposal that reads was read whole
+pub six-done : (o : Outcome) (k : ℕ) → asSix o ≡ Done k → o ≡ Done k
+six-done (Done n) k e = e
+six-done (Refused number place) k e = clash (cc)
 
 pub read-proposals-proposed : ReadProposalsProposed
 read-proposals-proposed cells links s k o =
-    proposal-read cells links (read-whole (valuesFrom cells links) s k (six-done (readFrom (valuesFrom cells links) s .outcome) o) .steps)
+    proposal-read cells links (read-whole (valuesFrom cells links) s k (six-done (readFrom (valuesFrom cells links) s .outcome) k o) .steps)

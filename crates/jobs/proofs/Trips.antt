@@ -12,7 +12,7 @@ use Rattle.packs.specs.Writing.{Written, writeFrom}
 use Rattle.packs.proofs.Trips.{writing-back, reading-back, refusing-alike}
 use Rattle.jobs.specs.Packs.{asSix}
 use Rattle.jobs.specs.Promises.{AllowedJobsWritten, AllowedProposalsWritten, JobsWrittenBack, JobsReadBack, ProposalsReadBack, JobsRefusedAlike, ProposalsRefusedAlike}
-use Rattle.jobs.proofs.Handed.{six-done}
+use Rattle.jobs.proofs.Readings.{six-done}
 use Rattle.jobs.proofs.Writable.{job-passes}
 use Rattle.jobs.proofs.Packable.{proposal-packed}
 

@@ -16,8 +16,8 @@ use Rattle.jobs.specs.Words.{wordAt, cellsOf, linksOf, jobOf}
 use Rattle.jobs.specs.Allowed.{Allowed, Laid, Proposed}
 use Rattle.jobs.specs.Packs.{readJob, readProposal}
 use Rattle.jobs.proofs.Steps.{read-whole}
-use Rattle.jobs.proofs.Handed.{six-done, held-room, held-part}
-use Rattle.jobs.proofs.Readings.{read-jobs-allowed, read-jobs-laid, read-words-counted, read-words-few, read-proposals-proposed}
+use Rattle.jobs.proofs.Handed.{held-room, held-part}
+use Rattle.jobs.proofs.Readings.{six-done, read-jobs-allowed, read-jobs-laid, read-words-counted, read-words-few, read-proposals-proposed}
 use Rattle.measure.specs.declared.check.Verdict.{Verdict}
 use Rattle.measure.specs.declared.check.Verdict.the-variants.{Refused}
 use Rattle.measure.specs.Check.{multipliersOf, verdictOf, onRead, proposalVerdict, ifRead, proposalWords, checkOf}

@@ -4,12 +4,9 @@ use Prim.Native.Nat.{ℕ, zero, suc, _≤_}
 use mathlib.Core.Path.{_≡_, ap}
 use mathlib.Core.Bool.{Bool, false}
 use native.Mathlib.Omega.{arith}
-use lib.Dec.{T, lit<, leb, leb→le, eqb, eqb→eq}
+use lib.Dec.{T, leb, leb→le, eqb, eqb→eq}
 use lib.IntN.{ℤ, pos, negsuc, natAbs}
-use mir.Syntax.{w64}
-use mir.Val.{SFits}
 use Rattle.whole.specs.Sum.{sum, sumℕ}
-use Rattle.whole.proofs.Fits.{small-fits}
 use Rattle.whole.proofs.Tested.{below, below-at}
 use Rattle.rows.specs.Rows.{rowOf}
 
@@ -46,6 +43,3 @@ pub less-size : (z : ℕ) → z ≤ 3 → sumℕ (suc z) (λ m. natAbs (rowOf z 
 unfolding rowOf sumℕ
 less-size z h =
     leb→le (sumℕ (suc z) (λ m. natAbs (rowOf z m))) 8 (below-at 4 (λ z. leb (sumℕ (suc z) (λ m. natAbs (rowOf z m))) 8) tt z (omega arith))
-
-pub row-fits : (z m : ℕ) → z ≤ 4 → m ≤ 4 → SFits w64 (rowOf z m)
-row-fits z m h k = small-fits (rowOf z m) (row-small z m h k) (lit< tt)

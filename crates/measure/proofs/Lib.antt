@@ -1,12 +1,14 @@
 -- The laws behind the functions of this crate. Each file says what it is for.
 pub mod Places
-pub mod Table
+pub mod Differences
 pub mod Losses
 pub mod Terms
 pub mod Totals
 pub mod Lowest
 pub mod Scattered
 pub mod Walks
+pub mod Gathered
 pub mod Residuals
+pub mod Totalled
 pub mod Verdicts
 pub mod Packed

@@ -26,7 +26,7 @@ use Rattle.measure.specs.Loss.{lossOf}
 use Rattle.measure.specs.Given.{Given, Differs, Difference, Differences, LossParts, Measured}
 use Rattle.measure.specs.Running.{Filled}
 use Rattle.measure.proofs.Places.{read, rate-read, weight-read}
-use Rattle.measure.proofs.Table.{difference-small, difference-less, row-coefficients}
+use Rattle.measure.proofs.Differences.{difference-small, difference-less, row-coefficients}
 use Rattle.measure.proofs.Terms.{apart-small}
 use Rattle.measure.specs.OnWords.{differenceOn, fitTermOn, fitOn, lossOn}
 

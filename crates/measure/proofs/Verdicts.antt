@@ -29,13 +29,13 @@ use Rattle.measure.specs.Check.{lowestFailing, verdictOf}
 use Rattle.measure.specs.Given.{Given, Differs, Measured, Walking, Totalling, Boxes, Judging}
 use Rattle.measure.specs.Running.{Filled, Added, runOf, walkOf, onWalked}
 use Rattle.measure.proofs.Places.{read, rate-read, tolerance-fits}
-use Rattle.measure.proofs.Table.{row-form}
+use Rattle.measure.proofs.Differences.{row-form}
 use Rattle.measure.proofs.Losses.{differs, loss-in-64}
 use Rattle.measure.proofs.Terms.{true-T}
 use Rattle.measure.proofs.Totals.{Runs, run-least, run-small, run-fits, Tells, tells-start, run-tells, not-le-lt, lt-not-le}
 use Rattle.measure.proofs.Lowest.{Passed, lowest-all, passed-all}
 use Rattle.measure.proofs.Walks.{links-run}
-use Rattle.measure.proofs.Residuals.{cells-run}
+use Rattle.measure.proofs.Totalled.{cells-run}
 use Rattle.measure.specs.OnWords.{inBoxOn, holdsOn, lossOn, cellTermOn, linkTermOn, gapOn, judgedOn, verdictOn, heldOn, partsOn, walkOn}
 
 -- ---- a cell's box, in code

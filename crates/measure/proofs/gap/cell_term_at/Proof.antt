@@ -1,7 +1,7 @@
 -- The words of the cell, each in its range.
 use native.Mathlib.Omega.{arith}
 use borrow.Author.Needs.{needs}
-use Rattle.measure.proofs.Residuals.{cell-call, cell-result, cell-value, cell-words}
+use Rattle.measure.proofs.Totalled.{cell-call, cell-result, cell-value, cell-words}
 use Rattle.measure.proofs.gap.cell_term_at.Statement.{statement}
 use Rattle.measure.proofs.gap.cell_term_at.Tie as tie
 

@@ -8,7 +8,7 @@ use Rattle.whole.proofs.Fits.{Holds, gives}
 use Rattle.whole.proofs.Solve.{at}
 use Rattle.jobs.specs.Words.{jobOf}
 use Rattle.measure.proofs.Places.{tolerance-fits}
-use Rattle.measure.proofs.Residuals.{total-cell, total-ends, total-next, total-residual, total-settles, totalling-by}
+use Rattle.measure.proofs.Totalled.{total-cell, total-ends, total-next, total-residual, total-settles, totalling-by}
 use Rattle.measure.proofs.Totals.{run-begins}
 use Rattle.measure.specs.OnWords.{cellTermOn}
 use Rattle.measure.specs.Running.{runOf}

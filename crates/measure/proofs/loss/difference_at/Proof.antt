@@ -8,7 +8,7 @@ use Rattle.whole.proofs.Solve.{at}
 use Rattle.whole.proofs.Sums.{sum-zero}
 use Rattle.whole.specs.Sum.{sum}
 use Rattle.jobs.specs.Words.{wordAt}
-use Rattle.measure.proofs.Table.{difference-adds}
+use Rattle.measure.proofs.Differences.{difference-adds}
 use Rattle.measure.proofs.loss.difference_at.Statement.{statement}
 use Rattle.measure.proofs.loss.difference_at.Tie as tie
 

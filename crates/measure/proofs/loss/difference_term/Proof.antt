@@ -2,7 +2,7 @@
 use native.Mathlib.Omega.{arith}
 use borrow.Author.Needs.{needs}
 use Rattle.whole.proofs.Fits.{fits-by, gives}
-use Rattle.measure.proofs.Table.{difference-cell, difference-term-fits, difference-term-is}
+use Rattle.measure.proofs.Differences.{difference-cell, difference-term-fits, difference-term-is}
 use Rattle.measure.proofs.loss.difference_term.Statement.{statement}
 use Rattle.measure.proofs.loss.difference_term.Tie as tie
 

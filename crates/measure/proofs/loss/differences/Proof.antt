@@ -7,7 +7,7 @@ use Rattle.whole.proofs.Solve.{at}
 use Rattle.certificate.specs.Differences.{formAt}
 use Rattle.jobs.specs.Words.{wordAt}
 use Rattle.measure.proofs.Losses.{filled-next, filled-start}
-use Rattle.measure.proofs.Table.{difference-fits}
+use Rattle.measure.proofs.Differences.{difference-fits}
 use Rattle.measure.specs.Running.{Filled}
 use Rattle.measure.proofs.loss.differences.Statement.{statement}
 use Rattle.measure.proofs.loss.differences.Tie as tie

@@ -9,7 +9,7 @@ use Rattle.whole.proofs.Sums.{sum-zero}
 use Rattle.whole.specs.Sum.{sum}
 use Rattle.certificate.specs.Differences.{earlier}
 use Rattle.jobs.specs.Words.{wordAt}
-use Rattle.measure.proofs.Residuals.{gathered-adds}
+use Rattle.measure.proofs.Gathered.{gathered-adds}
 use Rattle.measure.proofs.residual.gathered_at.Statement.{statement}
 use Rattle.measure.proofs.residual.gathered_at.Tie as tie
 

@@ -2,7 +2,7 @@
 use native.Mathlib.Omega.{arith}
 use borrow.Author.Needs.{needs}
 use Rattle.whole.proofs.Fits.{fits-by, gives}
-use Rattle.measure.proofs.Residuals.{gathered-step, gathered-term-fits, gathered-term-is}
+use Rattle.measure.proofs.Gathered.{gathered-step, gathered-term-fits, gathered-term-is}
 use Rattle.measure.proofs.residual.gathered_term.Statement.{statement}
 use Rattle.measure.proofs.residual.gathered_term.Tie as tie
 

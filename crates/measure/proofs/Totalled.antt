@@ -1,0 +1,161 @@
+-- The loop over the cells: each cell term is within its range, and the running total holds those that were passed.
+use Prim.Native.Nat.{ℕ, _+_, _-_, _*_, _≤_, _<_}
+use mathlib.Core.Path.{_≡_, refl, sym, ap, ap₂, subst, _∙_}
+use mathlib.Core.Bool.{Bool, true, false, _&&_}
+use mathlib.Core.List.{List}
+use native.Mathlib.Nat as N
+use native.Mathlib.Omega.{arith}
+use lib.Dec.{T, lit<, leb, leb→le}
+use lib.IntN.{ℤ, pos, natAbs, _+ℤ_, _-ℤ_, _*ℤ_}
+use lib.ListN.{length}
+use lib.Signed.{_≤ℤ_, leZ, leZ-yes}
+use mir.Syntax.{w64}
+use mir.Val.{toZ, ofZ}
+use Rattle.whole.proofs.Fits.{Holds, small-fits, gives}
+use Rattle.numbers.proofs.Clash.{clash}
+use Rattle.certificate.specs.Terms.{cellTerm}
+use Rattle.certificate.specs.Differences.{along, gathered}
+use Rattle.certificate.proofs.Terms.{cell-terms-not-negative}
+use Rattle.jobs.specs.Words.{wordAt, cellsOf, linksOf, jobOf}
+use Rattle.jobs.proofs.Places.{cells-inside}
+use Rattle.rows.specs.Rows.{rowOf}
+use Rattle.measure.specs.Gap.{limit, residualOf}
+use Rattle.measure.specs.Given.{ResidualAt, CellAt, CellNumbers, Settles, Totalling}
+use Rattle.measure.specs.Running.{settledOf, runOf}
+use Rattle.measure.proofs.Places.{read, rate-read, weight-read}
+use Rattle.measure.proofs.Terms.{cell-small, true-T}
+use Rattle.measure.proofs.Totals.{Runs, settles-call, settles-next}
+use Rattle.measure.proofs.Walks.{parts-small}
+use Rattle.measure.specs.OnWords.{linkPartOn, residualOn, residualWith, cellTermWith, cellTermOn}
+use Rattle.measure.proofs.Residuals.{slopes-small, slopes, smooth-is}
+
+-- ---- the cell term
+
+module _ {ws ps : List ℤ} {i : ℕ} {r : ℤ} (C : CellAt ws ps i r) where
+  pub cell-words : 9 + 4 * i < length ws
+  cell-words = omega (arith, C .inside, cells-inside (C .given .laid))
+
+  pub cell-value : i < length ps
+  cell-value = omega (arith, C .inside, C .given .proposed .count)
+
+  cell-numbers : CellNumbers (jobOf ws .weight i) r (jobOf ws .floor i) (jobOf ws .ceiling i) (wordAt ps i)
+  cell-numbers = record {
+    w-in = C .given .allowed .cell i (C .inside) .weight;
+    box = record {
+      r-small = C .r-small;
+      lo-in = C .given .allowed .cell i (C .inside) .floor;
+      hi-in = C .given .allowed .cell i (C .inside) .ceiling;
+      v-in = C .given .proposed .value i (C .inside);
+    };
+  }
+
+  w-read : read (jobOf ws .weight i) ≡ jobOf ws .weight i
+  w-read = weight-read (cell-numbers .w-in)
+
+  r-read : read r ≡ r
+  r-read = gives refl (small-fits r (C .r-small) (lit< tt))
+
+  lo-read : read (jobOf ws .floor i) ≡ jobOf ws .floor i
+  lo-read = rate-read (cell-numbers .box .lo-in)
+
+  hi-read : read (jobOf ws .ceiling i) ≡ jobOf ws .ceiling i
+  hi-read = rate-read (cell-numbers .box .hi-in)
+
+  v-read : read (wordAt ps i) ≡ wordAt ps i
+  v-read = rate-read (cell-numbers .box .v-in)
+
+  pub cell-call : CellNumbers (read (jobOf ws .weight i)) (read r) (read (jobOf ws .floor i)) (read (jobOf ws .ceiling i)) (read (wordAt ps i))
+  cell-call = rw (w-read, r-read, lo-read, hi-read, v-read) cell-numbers
+
+  cell-term-small : natAbs (cellTermWith ws ps i r) ≤ 7000000000000000000
+  cell-term-small = cell-small (jobOf ws .weight i) r (jobOf ws .floor i) (jobOf ws .ceiling i) (wordAt ps i) cell-numbers
+
+  pub cell-result : {t : ℤ} → t ≡ cellTerm limit (read (jobOf ws .weight i)) (read r) (read (jobOf ws .floor i)) (read (jobOf ws .ceiling i)) (read (wordAt ps i))
+      → read t ≡ cellTermWith ws ps i r
+  cell-result {t} e =
+      gives
+      (e
+      ∙ ap₂ (λ (w r : ℤ). cellTerm limit w r (read (jobOf ws .floor i)) (read (jobOf ws .ceiling i)) (read (wordAt ps i))) w-read r-read
+      ∙ ap₂ (λ (lo hi : ℤ). cellTerm limit (jobOf ws .weight i) r lo hi (read (wordAt ps i))) lo-read hi-read
+      ∙ ap (λ (v : ℤ). cellTerm limit (jobOf ws .weight i) r (jobOf ws .floor i) (jobOf ws .ceiling i) v) v-read)
+      (small-fits (cellTermWith ws ps i r) cell-term-small (lit< tt))
+
+-- ---- the loop over the cells
+
+box-both : (a b : Bool) → (a && b) ≡ true → (a ≡ true) × (b ≡ true)
+box-both true b e = (refl, e)
+box-both false b e = clash (cc)
+
+pub totalling-by : {ws ps : List ℤ} {n z : ℕ} {d parts : List ℤ} {start start′ : ℤ} → start ≡ start′ → Totalling ws ps n z d parts start
+    → Totalling ws ps n z d parts start′
+totalling-by {ws} {ps} {n} {z} {d} {parts} e H = subst (λ (x : ℤ). Totalling ws ps n z d parts x) e H
+
+module _ {ws ps : List ℤ} {n z : ℕ} {d parts : List ℤ} {start : ℤ} (H : Totalling ws ps n z d parts start) where
+  linked-read : (i : ℕ) → i < n → read (wordAt parts i) ≡ linkPartOn ws ps i
+  linked-read i h =
+      gives (H .parts-are i h)
+      (small-fits (linkPartOn ws ps i) (parts-small (H .measured .given) (linksOf ws) i (N.le-refl (linksOf ws))) (lit< tt))
+
+  plain-at : (i : ℕ) → i < n → ResidualAt ws ps n z d i (linkPartOn ws ps i)
+  plain-at i h = record { measured = H .measured; inside = h; part-small = parts-small (H .measured .given) (linksOf ws) i (N.le-refl (linksOf ws)) }
+
+  pub total-residual : (i : ℕ) → i < n → ResidualAt ws ps n z d i (read (wordAt parts i))
+  total-residual i h = subst (λ (x : ℤ). ResidualAt ws ps n z d i x) (sym (linked-read i h)) (plain-at i h)
+
+  residual-is : (i : ℕ) → i < n → {r : ℤ}
+      → r ≡ residualWith ws ps i (read (wordAt parts i))
+      → r ≡ residualOn ws ps i
+  unfolding residualOf
+  residual-is i h q = q ∙ ap (λ (x : ℤ). residualWith ws ps i x) (linked-read i h)
+
+  residual-small : (i : ℕ) → i < n → natAbs (residualOn ws ps i) ≤ 7000000000000
+  unfolding residualOf
+  residual-small i h =
+      subst (λ (x : ℤ). natAbs (pos 2 *ℤ jobOf ws .weight i *ℤ (wordAt ps i -ℤ jobOf ws .crude i) +ℤ x +ℤ linkPartOn ws ps i) ≤ 7000000000000)
+      (smooth-is (plain-at i h) {k = jobOf ws .constant} {s = gathered (along (rowOf z) z 1 (n - z)) (wordAt d) i} refl refl)
+      (N.le-trans (slopes-small (slopes (plain-at i h) {k = jobOf ws .constant} {s = gathered (along (rowOf z) z 1 (n - z)) (wordAt d) i} refl refl)) (leb→le 6660000000000 7000000000000 tt))
+
+  cell-at : (i : ℕ) → i < n → CellAt ws ps i (residualOn ws ps i)
+  cell-at i h = record { given = H .measured .given; inside = subst (λ (x : ℕ). i < x) (H .measured .n-is) h; r-small = residual-small i h }
+
+  box-of : (i : ℕ) → i < n → (jobOf ws .floor i ≤ℤ wordAt ps i) × (wordAt ps i ≤ℤ jobOf ws .ceiling i)
+  box-of i h =
+      let b = box-both (leZ (jobOf ws .floor i) (wordAt ps i)) (leZ (wordAt ps i) (jobOf ws .ceiling i)) (H .boxes i h) in
+      (leZ-yes (true-T (b .0)), leZ-yes (true-T (b .1)))
+
+  pub cells-run : Runs (jobOf ws .tolerance) start (cellTermOn ws ps) n
+  cells-run = record {
+    tolerance-in = H .measured .given .allowed .tolerance;
+    start-least = H .start-least;
+    start-small = H .start-small;
+    least = λ i h.
+        cell-terms-not-negative limit (jobOf ws .weight i) (residualOn ws ps i) (jobOf ws .floor i) (jobOf ws .ceiling i) (wordAt ps i)
+        (box-of i h .0) (box-of i h .1);
+    small = λ i h. cell-term-small (cell-at i h);
+  }
+
+  -- in the round i
+  module _ {i : ℕ} (h : i < n) {r : ℤ}
+      (q : r ≡ residualWith ws ps i (read (wordAt parts i))) where
+    r-is : read r ≡ residualOn ws ps i
+    r-is = gives (residual-is i h q) (small-fits (residualOn ws ps i) (residual-small i h) (lit< tt))
+
+    pub total-cell : CellAt ws ps i (read r)
+    total-cell = subst (λ (x : ℤ). CellAt ws ps i x) (sym r-is) (cell-at i h)
+
+    module _ {t : ℤ} (u : t ≡ cellTermWith ws ps i (read r)) {tolerance total : ℕ}
+        (et : Holds tolerance (jobOf ws .tolerance))
+        (T : Holds total (runOf (jobOf ws .tolerance) start (cellTermOn ws ps) i)) where
+      t-is : t ≡ cellTermOn ws ps i
+      t-is = u ∙ ap (λ (x : ℤ). cellTermWith ws ps i x) r-is
+
+      pub total-settles : Settles (toZ w64 tolerance) (toZ w64 total) (read t)
+      total-settles = settles-call cells-run h T (et .is) t-is
+
+      pub total-next : {g : ℤ} → g ≡ settledOf (toZ w64 tolerance) (toZ w64 total) (read t)
+          → Holds (ofZ w64 g) (runOf (jobOf ws .tolerance) start (cellTermOn ws ps) (i + 1))
+      total-next eg = settles-next cells-run h T (et .is) t-is eg
+
+  pub total-ends : {i total : ℕ} → i ≡ n → Holds total (runOf (jobOf ws .tolerance) start (cellTermOn ws ps) i)
+      → toZ w64 total ≡ runOf (jobOf ws .tolerance) start (cellTermOn ws ps) (cellsOf ws)
+  total-ends e T = T .is ∙ ap (runOf (jobOf ws .tolerance) start (cellTermOn ws ps)) (e ∙ H .measured .n-is)

@@ -24,6 +24,7 @@ Inside F n = (f : ℕ) → f < F .count → F .start f + F .order * F .stride < 
 abbrev pub Consecutive : Family → Type 0
 Consecutive F = (f : ℕ) → f < F .count → F .start f ≡ f
 
+-- differences of one row, each of which starts at the cell of its number
 abbrev pub along : (row : ℕ → ℤ) (order stride count : ℕ) → Family
 along row order stride count = record { row = row; order = order; stride = stride; count = count; start = λ f. f }
 

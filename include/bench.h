@@ -24,7 +24,9 @@
  *     1    job pack: number unreadable, or spare bytes             offset of its first byte, or of the first spare byte
  *     2    job pack: number not allowed                            offset of its first byte
  *     3    floor above ceiling                                     cell
- *     4    fewer positive weights than the order used              0
+ *     4    fewer positive weights than the order used; of a grid,  0
+ *          fewer rows than the order down that have as many as
+ *          the order across
  *     5    cells of a link not rising, or coefficient 0            link
  *     6    proposal pack: unreadable, spare bytes, not allowed     offset, as for 1 and 2
  *     7    value outside its box                                   lowest such cell
@@ -35,9 +37,10 @@
  *     12   fetch or forget: nothing kept under that number         0
  *     13   answer slice not 4 words, shelf not 4,032,              4, 4,032, or
  *          or output too short                                     the length needed, in the output's own elements
+ *     20   house proposal: a grid of more than 12 columns          0
  *
  * The first that applies is given, in this order: answer slice, shelf length; then the job pack from its first byte to its last (1 and 2
- * for each number, 3 after each ceiling, 4 after the last cell, 5 after each term, spare bytes last); then 6, 7, 8, 9, or 10; for fetch and
+ * for each number, 3 after each ceiling, 4 after the last cell, 5 after each term, spare bytes last); then 6, 7, 8, 9, or 20, 10; for fetch and
  * forget 11, then 12; and the output's length last. A wrong answer slice is not written to: only the returned number tells it.
  *
  * PACKS
@@ -62,7 +65,7 @@
  *   - No pointer is null, even where the count is 0: pass any valid address.
  *   - Each count is true, and each pointer is aligned for its elements.
  *   - No two slices of one call overlap, unless the call only reads both. A pointer to const is only read.
- *   - BENCH_STACK_BYTES of stack are free: a call puts its working room there. bench_propose uses most, about 29 KB.
+ *   - BENCH_STACK_BYTES of stack are free: a call puts its working room there. bench_propose uses most, about 84 KB.
  *   - a call names the right society: every call acts for the society that its job pack or its argument names, whoever makes it.
  *
  * Calls may run at the same time on several threads as long as no slice that one of them writes is lent to another. Calls on different
@@ -98,7 +101,7 @@ extern "C" {
 #define BENCH_SHELF_WORDS 4032 /* 32-bit words of a shelf: 8 societies of 4 slots of 126 */
 
 /* No call needs more stack than this. */
-#define BENCH_STACK_BYTES 49152
+#define BENCH_STACK_BYTES 98304
 
 /* The most that a job can have. */
 #define BENCH_MOST_CELLS 120
@@ -107,8 +110,8 @@ extern "C" {
 #define BENCH_MOST_SOCIETY 7 /* societies are numbered from 0 */
 
 /* The longest packs and lists: nothing longer is ever accepted, and an output of that length is never too short. */
-#define BENCH_MOST_JOB_BYTES 3580      /* a job pack: the output of bench_write */
-#define BENCH_MOST_JOB_WORDS 2087      /* a job's numbers: the output of bench_read */
+#define BENCH_MOST_JOB_BYTES 3586      /* a job pack: the output of bench_write */
+#define BENCH_MOST_JOB_WORDS 2092      /* a job's numbers: the output of bench_read */
 #define BENCH_MOST_PROPOSAL_BYTES 1160 /* a proposal pack */
 #define BENCH_MOST_HOUSE_BYTES 520     /* a house proposal, whose multipliers are all 0: the output of bench_propose */
 #define BENCH_MOST_VALUES 120          /* a table's values: the output of bench_fetch */
@@ -128,7 +131,8 @@ enum bench_number {
     BENCH_TOO_THIN = 10,
     BENCH_NO_SUCH_SOCIETY = 11,
     BENCH_NOTHING_KEPT = 12,
-    BENCH_WRONG_LENGTH = 13
+    BENCH_WRONG_LENGTH = 13,
+    BENCH_GRID_TOO_WIDE = 20
 };
 
 /* The number and the place of what a call returned. */
@@ -142,7 +146,8 @@ uint64_t bench_check(const uint8_t *job, size_t job_bytes, const uint8_t *propos
                      uint64_t *answer, size_t answer_words);
 
 /* Makes the house proposal for a job and writes it to `out` as a proposal pack, all multipliers 0. Done: the place is the pack's bytes. It
- * ignores links and has no privilege: the check may refuse it. Numbers: 0 to 5, 10, 13. */
+ * ignores links and has no privilege: the check may refuse it. A grid may have 12 columns at most. Numbers: 0 to 5, 10, 13,
+ * 20. */
 uint64_t bench_propose(const uint8_t *job, size_t job_bytes, uint8_t *out, size_t out_bytes,
                        uint64_t *answer, size_t answer_words);
 

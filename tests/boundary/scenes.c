@@ -169,7 +169,7 @@ static void pack_call(struct random *r, struct call *c)
         lend_output(r, c, said % 32 == 0 ? said / 32 : 0, 520, 1);
     } else {
         said = twin_read(job_pack.at, job_pack.count, (int64_t *)room, MOST_NUMBERS, answer, ANSWER_WORDS);
-        lend_output(r, c, said % 32 == 0 ? said / 32 : 0, 2087, sizeof(int64_t));
+        lend_output(r, c, said % 32 == 0 ? said / 32 : 0, 2092, sizeof(int64_t));
     }
 }
 

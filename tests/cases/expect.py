@@ -4,14 +4,15 @@
   tests/cases/expect.py          writes crates/cases/stdin and crates/cases/stdout
   tests/cases/expect.py --check  compares them: the last line counts the stored cases that are, and are not, what is made here
 
-First come the house proposals of `tests/house/expect.py`, then document 01's tables worked by hand, refusals and limits of the check, and last the
-solver's jobs, one for each line of `tests/solver/optima`. Those are kept as they are stored: only their lines are computed.
+First come the house proposals of `tests/house/expect.py`, then document 01's tables worked by hand, refusals and limits of the check, then the grids of
+`tests/grids/compare.py`, and last the solver's jobs, one for each line of `tests/solver/optima`. Those are kept as they are stored: only their lines are computed.
 """
 import sys
 from pathlib import Path
 
 sys.path.insert(0, str(Path(__file__).resolve().parents[1]))
 import packs
+from grids import compare as grids
 from house import expect as house
 from packs import Job, check_case, house_case, number, proposal_pack
 from solver.optima import optima
@@ -104,7 +105,7 @@ def solved():
     return made
 
 def cases(last):
-    made = house.cases() + worked() + refused() + [computed(*limit) for limit in limits()] + last
+    made = house.cases() + worked() + refused() + [computed(*limit) for limit in limits()] + grids.cases(60, 205) + last
     return [(case, ' '.join(str(x) for x in told)) for case, told in made]
 
 def write(last):

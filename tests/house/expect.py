@@ -26,7 +26,11 @@ def values(job):
     """The values before rounding, or the cell that is thin."""
     n, z = len(job.cells), job.order_used()
     w = [c[1] for c in job.cells]
-    a = matrix(n, z, job.k, w)
+    return solved(matrix(n, z, job.k, w), z, [c[0] * c[1] for c in job.cells])
+
+def solved(a, z, right):
+    """The same of any matrix, by the steps of a band z wide."""
+    n = len(a)
     low = [[0.0] * n for _ in range(n)]
     d = [0.0] * n
     for j in range(n):
@@ -44,7 +48,7 @@ def values(job):
             return None, j
     y = [0.0] * n
     for j in range(n):
-        x = float(w[j] * job.cells[j][0])
+        x = float(right[j])
         for m in range(max(0, j - z), j):
             x = x - low[j][m] * y[m]
         y[j] = x
@@ -64,10 +68,12 @@ def rounded(v, lo, hi):
     return math.floor(Fraction(v) + Fraction(1, 2))
 
 def outcome(job, room):
-    v, thin = values(job)
+    return told(job.cells, len(job.links), *values(job), room)
+
+def told(cells, links, v, thin, room):
     if v is None:
         return [10, thin]
-    out = b''.join(number(rounded(x, c[2], c[3])) for x, c in zip(v, job.cells)) + bytes(len(job.links))
+    out = b''.join(number(rounded(x, c[2], c[3])) for x, c in zip(v, cells)) + bytes(links)
     return [13, len(out)] if len(out) > room else [0, len(out), *out]
 
 # ---- the cases

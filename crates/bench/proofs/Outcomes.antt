@@ -20,8 +20,8 @@ use Rattle.jobs.specs.Allowed.{Allowed}
 use Rattle.jobs.specs.Packs.{asSix, handedOut, readJob, readJobInto, writeJob, writeProposal}
 use Rattle.jobs.proofs.Readings.{read-jobs-allowed}
 use Rattle.jobs.proofs.Near.{job-read-near, job-written-near, proposal-written-near}
-use Rattle.house.specs.declared.factor.Ending.{Ending}
-use Rattle.house.specs.declared.factor.Ending.the-variants.{Whole, Thin}
+use Rattle.factor.specs.declared.Ending.{Ending}
+use Rattle.factor.specs.declared.Ending.the-variants.{Whole, Thin}
 use Rattle.house.specs.Proposal.{wordsOf, writtenOf, onEnding, solvedOf, proposedOf, onJobRead, proposeOf}
 use Rattle.house.proofs.Thin.{thin-cell}
 use Rattle.bench.specs.Calls.{outcomeOf}
@@ -47,7 +47,7 @@ handed-small room words (Refused number place) s = s
 
 -- ---- packs
 
-near-small : (o : Outcome) → Near 20870 o → Small (outcomeOf o)
+near-small : (o : Outcome) → Near 20920 o → Small (outcomeOf o)
 near-small (Done n) h = record { number = omega arith; place = h }
 near-small (Refused number place) h = record { number = omega (arith, h .1); place = h .2 }
 
@@ -73,15 +73,20 @@ written-small room j A v =
 
 proposed-small : (room : ℕ) (j : Job) → Allowed j → Small (outcomeOf (proposedOf room j .outcome))
 unfolding proposedOf
-proposed-small room j A = go (solvedOf j .ending) refl
+proposed-small room j A = wide (ltb 12 (j .columns)) (go (solvedOf j .ending) refl)
   where
     go : (e : Ending) → solvedOf j .ending ≡ e → Small (outcomeOf (onEnding room j (solvedOf j .values) e .outcome))
     go Whole q = written-small room j A (solvedOf j .values)
-    go (Thin cell pivot) q = record { number = omega arith; place = omega (arith, thin-cell j cell pivot q, A .cells-few) }
+    go (Thin cell pivot) q = record { number = omega arith; place = omega (arith, thin-cell j (A .cells-are) cell pivot q, A .cells-few) }
+
+    wide : (b : Bool) → Small (outcomeOf (onEnding room j (solvedOf j .values) (solvedOf j .ending) .outcome))
+        → Small (outcomeOf ((if b then refused 20 0 else onEnding room j (solvedOf j .values) (solvedOf j .ending)) .outcome))
+    wide true s = record { number = omega arith; place = omega arith }
+    wide false s = s
 
 pub propose-small : (room : ℕ) (job : List ℕ) → Small (outcomeOf (proposeOf room job .outcome))
 propose-small room job = go (readJob job .outcome) refl (job-read-near job)
   where
-    go : (o : Outcome) → readJob job .outcome ≡ o → Near 20870 o → Small (outcomeOf (onJobRead room (readJob job .words) o .outcome))
+    go : (o : Outcome) → readJob job .outcome ≡ o → Near 20920 o → Small (outcomeOf (onJobRead room (readJob job .words) o .outcome))
     go (Done k) e h = proposed-small room (jobOf (readJob job .words)) (read-jobs-allowed job k e)
     go (Refused number place) e h = record { number = omega (arith, h .1); place = h .2 }

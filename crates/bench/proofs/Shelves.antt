@@ -17,7 +17,7 @@ use Rattle.shelf.specs.Calls.{Call, keep, fetch, forget, clear, wholeSaid, said
 use Rattle.shelf.proofs.Picked.{found-count}
 use Rattle.bench.proofs.Small.{Small, check-small}
 
-refusal-small : (number place : ℕ) → number ≤ 13 → place ≤ 20870 → Small (refusal number place .answer)
+refusal-small : (number place : ℕ) → number ≤ 31 → place ≤ 20920 → Small (refusal number place .answer)
 refusal-small number place h l = record { number = h; place = l }
 
 at-small : (room : ℕ) (x : List ℕ) → getD x 0 0 ≤ 120 → Small (fetchAt room x .answer)

@@ -1,4 +1,4 @@
--- No answer's number and place are too large for the one number that tells both: the number is 13 at most, and the place 20,870.
+-- No answer's number and place are too large for the one number that tells both: the number is 13 at most, and the place 20,920.
 use Prim.Native.Nat.{ℕ, _^_, _%_, _≤_}
 use mathlib.Core.Path.{_≡_, refl}
 use mathlib.Core.Bool.{Bool, true, false}
@@ -30,8 +30,8 @@ use Rattle.shelf.specs.Checked.{answerOf}
 use Rattle.bench.specs.Answers.{codeOf}
 
 pub record Small (a : Answer) : Type 0 where
-  pub number : a .number ≤ 13
-  pub place : a .place ≤ 20870
+  pub number : a .number ≤ 31
+  pub place : a .place ≤ 20920
 
 pub code-told : {a : Answer} → Small a → codeOf a % 2 ^ 64 ≡ codeOf a
 code-told s = omega (arith, s .number, s .place)
@@ -46,7 +46,7 @@ judged-small j v y = go (leZ (gapOf j v y) (j .tolerance))
     go false = record { number = omega arith; place = omega arith }
 
 -- a refusal whose place is among n, or what comes after it
-among-small : (number x n : ℕ) (later : Verdict) → number ≤ 13 → n ≤ 160 → Small (answerOf later) → Small (answerOf (if ltb x n then Refused number x else later))
+among-small : (number x n : ℕ) (later : Verdict) → number ≤ 31 → n ≤ 160 → Small (answerOf later) → Small (answerOf (if ltb x n then Refused number x else later))
 among-small number x n later h m l = go (ltb x n) refl
   where
     go : (t : Bool) → ltb x n ≡ t → Small (answerOf (if t then Refused number x else later))
@@ -76,6 +76,6 @@ proposal-small j A proposal =
 pub check-small : (job proposal : List ℕ) → Small (answerOf (checkOf job proposal))
 check-small job proposal = go (readJob job .outcome) refl (job-read-near job)
   where
-    go : (o : Outcome) → readJob job .outcome ≡ o → Near 20870 o → Small (answerOf (onRead o (proposalVerdict (jobOf (readJob job .words)) proposal)))
+    go : (o : Outcome) → readJob job .outcome ≡ o → Near 20920 o → Small (answerOf (onRead o (proposalVerdict (jobOf (readJob job .words)) proposal)))
     go (Done k) e h = proposal-small (jobOf (readJob job .words)) (read-jobs-allowed job k e) proposal
     go (Refuses number place) e h = record { number = omega (arith, h .1); place = h .2 }

@@ -4,4 +4,5 @@ pub mod Expansion
 pub mod Certificate
 pub mod Terms
 pub mod Differences
+pub mod Families
 pub mod Worked

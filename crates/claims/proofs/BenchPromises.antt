@@ -104,7 +104,7 @@ pub numbered : Numbered
 numbered = record {
   check = λ job proposal answer r a says. numbered-by (check-small job proposal) says (13 ∷ []) 9 (inl refl) (check-number job proposal);
   propose = λ job out answer r a x says.
-      numbered-by (propose-small (length out) job) says (10 ∷ 13 ∷ []) 5 (inr (inl refl)) (propose-number (length out) job);
+      numbered-by (propose-small (length out) job) says (10 ∷ 13 ∷ 20 ∷ []) 5 (inr (inl refl)) (propose-number (length out) job);
   read = λ job words answer r a x says. numbered-by (read-small (length words) job) says (13 ∷ []) 5 (inl refl) (read-number (length words) job);
   write = λ words out answer r a x says. numbered-by (write-small (length out) words) says (13 ∷ []) 5 (inl refl) (write-number (length out) words);
   keep = λ job proposal shelf answer r a x says.

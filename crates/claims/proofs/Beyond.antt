@@ -20,8 +20,8 @@ use Rattle.jobs.specs.Job.{Job}
 use Rattle.jobs.specs.Words.{jobOf}
 use Rattle.jobs.specs.Packs.{handedOut, readJob, readJobInto, writeJob, writeProposal}
 use Rattle.jobs.proofs.Readings.{six-done, read-words-counted}
-use Rattle.house.specs.declared.factor.Ending.{Ending}
-use Rattle.house.specs.declared.factor.Ending.the-variants.{Whole, Thin}
+use Rattle.factor.specs.declared.Ending.{Ending}
+use Rattle.factor.specs.declared.Ending.the-variants.{Whole, Thin}
 use Rattle.house.specs.Proposal.{wordsOf, onEnding, solvedOf, proposedOf, onJobRead, proposeOf}
 use Rattle.shelf.specs.declared.Slot.{Slot}
 use Rattle.shelf.specs.declared.Slot.the-variants.{At, Nowhere}
@@ -90,7 +90,11 @@ ending-within room j v (Thin cell pivot) = omega arith
 
 proposed-within : (room : ℕ) (j : Job) → Within (proposedOf room j .outcome) (proposedOf room j .bytes)
 unfolding proposedOf
-proposed-within room j = ending-within room j (solvedOf j .values) (solvedOf j .ending)
+proposed-within room j = go (ltb 12 (j .columns))
+  where
+    go : (b : Bool) → Within ((if b then refused 20 0 else onEnding room j (solvedOf j .values) (solvedOf j .ending)) .outcome) ((if b then refused 20 0 else onEnding room j (solvedOf j .values) (solvedOf j .ending)) .bytes)
+    go true = omega arith
+    go false = ending-within room j (solvedOf j .values) (solvedOf j .ending)
 
 on-read-within : (room : ℕ) (words : List ℤ) (o : Outcome) → Within (onJobRead room words o .outcome) (onJobRead room words o .bytes)
 on-read-within room words (Done k) = proposed-within room (jobOf words)

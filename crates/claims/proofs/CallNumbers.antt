@@ -22,8 +22,8 @@ use Rattle.jobs.proofs.Readings.{read-jobs-allowed}
 use Rattle.measure.specs.declared.check.Verdict.{Verdict}
 use Rattle.measure.specs.declared.check.Verdict.the-variants.{Accepted, Refused}
 use Rattle.measure.specs.Check.{checkOf}
-use Rattle.house.specs.declared.factor.Ending.{Ending}
-use Rattle.house.specs.declared.factor.Ending.the-variants.{Whole, Thin}
+use Rattle.factor.specs.declared.Ending.{Ending}
+use Rattle.factor.specs.declared.Ending.the-variants.{Whole, Thin}
 use Rattle.house.specs.Proposal.{wordsOf, onEnding, solvedOf, proposedOf, onJobRead, proposeOf}
 use Rattle.house.proofs.Writable.{house-writes}
 use Rattle.shelf.specs.declared.Slot.{Slot}
@@ -58,7 +58,7 @@ room-number others most room bytes (Done n) t h = go (ltb room n)
     go true = t
     go false = h
 
-near-number : (o : Outcome) → Near 20870 o → Among (13 ∷ []) 5 (outcomeOf o .number)
+near-number : (o : Outcome) → Near 20920 o → Among (13 ∷ []) 5 (outcomeOf o .number)
 near-number (Done n) h = inr (omega arith)
 near-number (Refuses number place) h = inr (h .1)
 
@@ -81,15 +81,19 @@ read-number room job = handed-number room (readJob job .words) (readJob job .out
 -- ---- the house proposal
 
 abbrev HouseNumber : Written → Type 0
-HouseNumber w = Among (10 ∷ 13 ∷ []) 5 (outcomeOf (w .outcome) .number)
+HouseNumber w = Among (10 ∷ 13 ∷ 20 ∷ []) 5 (outcomeOf (w .outcome) .number)
 
 done-number : (room : ℕ) (w : Written) (n : ℕ) → w .outcome ≡ Done n → HouseNumber (roomed room w)
-done-number room w n e = room-number (10 ∷ 13 ∷ []) 5 room (w .bytes) (w .outcome) (inr (inl refl)) (rw e (inr (inr (omega arith))))
+done-number room w n e = room-number (10 ∷ 13 ∷ 20 ∷ []) 5 room (w .bytes) (w .outcome) (inr (inl refl)) (rw e (inr (inr (inr (omega arith)))))
 
 proposed-number : (room : ℕ) (j : Job) → Allowed j → HouseNumber (proposedOf room j)
 unfolding proposedOf
-proposed-number room j A = go (solvedOf j .ending)
+proposed-number room j A = wide (ltb 12 (j .columns)) (go (solvedOf j .ending))
   where
+    wide : (b : Bool) → HouseNumber (onEnding room j (solvedOf j .values) (solvedOf j .ending)) → HouseNumber (if b then refused 20 0 else onEnding room j (solvedOf j .values) (solvedOf j .ending))
+    wide true h = inr (inr (inl refl))
+    wide false h = h
+
     go : (e : Ending) → HouseNumber (onEnding room j (solvedOf j .values) e)
     go Whole = let w = house-writes j A (solvedOf j .values) in done-number room (writeProposal (j .cells) (j .links) (wordsOf j (solvedOf j .values))) (w .0) (w .1)
     go (Thin cell pivot) = inl refl
@@ -97,9 +101,9 @@ proposed-number room j A = go (solvedOf j .ending)
 pub propose-number : (room : ℕ) (job : List ℕ) → HouseNumber (proposeOf room job)
 propose-number room job = go (readJob job .outcome) refl (job-read-near job)
   where
-    go : (o : Outcome) → readJob job .outcome ≡ o → Near 20870 o → HouseNumber (onJobRead room (readJob job .words) o)
+    go : (o : Outcome) → readJob job .outcome ≡ o → Near 20920 o → HouseNumber (onJobRead room (readJob job .words) o)
     go (Done k) e h = proposed-number room (jobOf (readJob job .words)) (read-jobs-allowed job k e)
-    go (Refuses number place) e h = inr (inr (h .1))
+    go (Refuses number place) e h = inr (inr (inr (h .1)))
 
 -- ---- the shelf
 

@@ -7,6 +7,7 @@ pub mod Accepted
 pub mod Terms
 pub mod Best
 pub mod Told
+pub mod Lines
 pub mod Worked
 pub mod Promises
 pub mod Tables
@@ -18,6 +19,7 @@ pub mod Refusals
 pub mod Fetched
 pub mod Layouts
 pub mod ShelfPromises
+pub mod Along
 pub mod HousePromises
 pub mod Unwritten
 pub mod Beyond

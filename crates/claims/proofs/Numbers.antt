@@ -11,4 +11,4 @@ abbrev pub OneToFive : ℕ → Type 0
 OneToFive number = (1 ≤ number) × (number ≤ 5)
 
 pub refused-one-to-five : (job : List ℕ) (number place : ℕ) → readJob job .outcome ≡ Refused number place → OneToFive number
-refused-one-to-five job number place e = let near = subst (Near 20870) e (job-read-near job) in (near .0, near .1)
+refused-one-to-five job number place e = let near = subst (Near 20920) e (job-read-near job) in (near .0, near .1)

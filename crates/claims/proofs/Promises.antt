@@ -1,9 +1,10 @@
 -- The promises, each a law whose type is its statement in specs/Promises.antt.
-use Rattle.claims.specs.Promises.{AcceptedExactly, JobRefusedExactly, ProposalRefusedExactly, OutsideExactly, BrokenExactly, AboveExactly, NoOtherRefusal, NoTermNegative, LossAtMost, Best, AcceptedMeets, WorkedTables}
+use Rattle.claims.specs.Promises.{AcceptedExactly, JobRefusedExactly, ProposalRefusedExactly, OutsideExactly, BrokenExactly, AboveExactly, NoOtherRefusal, NoTermNegative, LossAtMost, LineLoss, Best, AcceptedMeets, WorkedTables, WorkedGrid}
 use Rattle.claims.proofs.Accepted as Accepted
 use Rattle.claims.proofs.Terms as Terms
 use Rattle.claims.proofs.Best as Best
 use Rattle.claims.proofs.Told as Told
+use Rattle.claims.proofs.Lines as Lines
 use Rattle.claims.proofs.Worked as Worked
 
 pub accepted-exactly : AcceptedExactly
@@ -33,6 +34,9 @@ no-term-negative = Terms.no-term-negative
 pub loss-at-most : LossAtMost
 loss-at-most = Told.loss-most
 
+pub line-loss : LineLoss
+line-loss = Lines.line-loss
+
 pub best : Best
 best = Best.best
 
@@ -41,3 +45,6 @@ accepted-meets = Best.accepted-meets
 
 pub worked-tables : WorkedTables
 worked-tables = Worked.worked-tables
+
+pub worked-grid : WorkedGrid
+worked-grid = Worked.worked-grid

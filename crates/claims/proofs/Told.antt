@@ -17,9 +17,9 @@ use Rattle.jobs.proofs.Readings.{read-jobs-allowed, read-jobs-laid, read-propos
 use Rattle.jobs.proofs.Places.{upto-nonneg}
 use Rattle.measure.specs.declared.check.Verdict.{Verdict}
 use Rattle.measure.specs.declared.check.Verdict.the-variants.{Accepted, Refused}
-use Rattle.measure.specs.Loss.{familyOf, lossOf}
+use Rattle.measure.specs.Loss.{familyOf, familyAcross, acrossAt, lossOf}
 use Rattle.measure.specs.Check.{checkOf}
-use Rattle.measure.proofs.Losses.{loss-at-most}
+use Rattle.measure.proofs.Directions.{loss-at-most}
 use Rattle.shelf.specs.Slots.{Reply, refusal}
 use Rattle.shelf.specs.Checked.{checkedOf, accepted, answerOf}
 use Rattle.shelf.specs.Shelf.{base, fromWhole, keepReply}
@@ -42,7 +42,8 @@ loss-not-negative : (j : Job) → Allowed j → (v : ℕ → ℤ) → pos 0 ≤�
 unfolding lossOf
 loss-not-negative j A v =
     +ℤ-nonneg (sum-nonneg (j .cells) (λ i h. *ℤ-nonneg (upto-nonneg (A .cell i h .weight)) (sq-nonneg (v i -ℤ j .crude i))))
-    (*ℤ-nonneg (upto-nonneg (A .constant)) (sum-nonneg (familyOf j .count) (λ i h. sq-nonneg (difference (familyOf j) v i))))
+    (+ℤ-nonneg (*ℤ-nonneg (upto-nonneg (A .constant)) (sum-nonneg (familyOf j .count) (λ i h. sq-nonneg (difference (familyOf j) v i))))
+    (*ℤ-nonneg (upto-nonneg (A .second)) (sum-nonneg (familyAcross j .count) (λ i h. sq-nonneg (acrossAt j v i)))))
 
 pub loss-most : LossAtMost
 loss-most job proposal B =

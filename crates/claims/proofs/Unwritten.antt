@@ -17,8 +17,8 @@ use Rattle.jobs.specs.Words.{jobOf}
 use Rattle.jobs.specs.Packs.{handedOut, readJob, readJobInto, writeProposal}
 use Rattle.measure.specs.declared.check.Verdict.{Verdict}
 use Rattle.measure.specs.declared.check.Verdict.the-variants.{Accepted, Refused}
-use Rattle.house.specs.declared.factor.Ending.{Ending}
-use Rattle.house.specs.declared.factor.Ending.the-variants.{Whole, Thin}
+use Rattle.factor.specs.declared.Ending.{Ending}
+use Rattle.factor.specs.declared.Ending.the-variants.{Whole, Thin}
 use Rattle.house.specs.Proposal.{wordsOf, onEnding, solvedOf, proposedOf, onJobRead, proposeOf}
 use Rattle.shelf.specs.declared.Answer.{Answer}
 use Rattle.shelf.specs.Slots.{overwritten}
@@ -68,7 +68,11 @@ ending-nothing room j v (Thin cell pivot) n = refl
 
 proposed-nothing : (room : ℕ) (j : Job) → Nothing (proposedOf room j .outcome) (proposedOf room j .bytes)
 unfolding proposedOf
-proposed-nothing room j n = ending-nothing room j (solvedOf j .values) (solvedOf j .ending) n
+proposed-nothing room j = go (ltb 12 (j .columns))
+  where
+    go : (b : Bool) → Nothing ((if b then refused 20 0 else onEnding room j (solvedOf j .values) (solvedOf j .ending)) .outcome) ((if b then refused 20 0 else onEnding room j (solvedOf j .values) (solvedOf j .ending)) .bytes)
+    go true n = refl
+    go false n = ending-nothing room j (solvedOf j .values) (solvedOf j .ending) n
 
 on-read-nothing : (room : ℕ) (words : List ℤ) (o : Outcome) → Nothing (onJobRead room words o .outcome) (onJobRead room words o .bytes)
 on-read-nothing room words (Done k) n = proposed-nothing room (jobOf words) n

@@ -49,10 +49,10 @@ Among (other ∷ others) most number = (number ≡ other) ⊎ Among others most 
 abbrev pub NumberIn : (others : List ℕ) (most : ℕ) {A : Type 0} → Claim A → Type 0
 NumberIn others most {A} claim = (r : ℕ) (a : List ℕ) (x : List A) → claim r a x → Among others most (r % 32)
 
--- Each call gives the numbers that document 01's table has for it, and no other.
+-- Each call gives the numbers that the table of document 01, with 20 of document 02 (W-205), has for it, and no other.
 pub record Numbered : Type 0 where
   pub check : (job proposal answer : List ℕ) (r : ℕ) (a : List ℕ) → CheckSays job proposal answer r a → Among (13 ∷ []) 9 (r % 32)
-  pub propose : (job out answer : List ℕ) → NumberIn (10 ∷ 13 ∷ []) 5 (ProposeSays job out answer)
+  pub propose : (job out answer : List ℕ) → NumberIn (10 ∷ 13 ∷ 20 ∷ []) 5 (ProposeSays job out answer)
   pub read : (job : List ℕ) (words : List ℤ) (answer : List ℕ) → NumberIn (13 ∷ []) 5 (ReadSays job words answer)
   pub write : (words : List ℤ) (out answer : List ℕ) → NumberIn (13 ∷ []) 5 (WriteSays words out answer)
   pub keep : (job proposal shelf answer : List ℕ) → NumberIn (13 ∷ []) 9 (ShelfSays (keep job proposal) shelf answer)

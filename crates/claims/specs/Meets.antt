@@ -6,7 +6,7 @@ use lib.Signed.{_≤ℤ_}
 use Rattle.whole.specs.Sum.{sum}
 use Rattle.certificate.specs.Problem.{squared}
 use Rattle.jobs.specs.Job.{Job}
-use Rattle.measure.specs.Loss.{familyOf, roughness}
+use Rattle.measure.specs.Loss.{roughOf}
 use Rattle.measure.specs.Gap.{linkSum, cellTermOf, linkTermOf, gapOf}
 
 -- The value of the cell i is in its box; "A link j says: the sum of coefficient times rate over its terms is at most b."
@@ -29,9 +29,9 @@ pub record Meets (j : Job) (d : ℤ) (X : ℕ → ℤ) : Type 0 where
   pub ceilings : (i : ℕ) → i < j .cells → X i ≤ℤ (j .ceiling i *ℤ d)
   pub sums : (l : ℕ) → l < j .links → linkSum j l X ≤ℤ (j .bound l *ℤ d)
 
--- "sum of w(X-d·u)^2 + k times the sum of X's squared differences"
+-- "sum of w(X-d·u)^2 + k times the sum of X's squared differences"; for a grid of both directions, as in the loss.
 unfoldable pub scaledLossOf : Job → (d : ℤ) → (X : ℕ → ℤ) → ℤ
-scaledLossOf j d X = sum (j .cells) (λ i. j .weight i *ℤ squared (X i -ℤ d *ℤ j .crude i)) +ℤ j .constant *ℤ roughness (familyOf j) X
+scaledLossOf j d X = sum (j .cells) (λ i. j .weight i *ℤ squared (X i -ℤ d *ℤ j .crude i)) +ℤ roughOf j X
 
 -- "every table that meets the job, fractional ones included, has a loss of at least F - G": d²(F - G) is at most its scaled loss.
 abbrev pub NoneBelow : Job → (F G : ℤ) → Type 0

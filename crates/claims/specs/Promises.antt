@@ -1,20 +1,28 @@
 -- What is promised of the check: short statements about `checkOf`, which the check's contract cites, and the definitions beside them. The
 -- proof of each stands in proofs/Promises.antt.
-use Prim.Native.Nat.{ℕ, _≤_}
+use Prim.Native.Nat.{ℕ, _-_, _≤_}
 use mathlib.Core.Path.{_≡_}
 use mathlib.Core.Logic.{_↔_}
+use mathlib.Core.Bool.{false}
 use mathlib.Core.List.{List, [], _∷_, map}
-use lib.IntN.{ℤ, pos, _*ℤ_}
+use lib.IntN.{ℤ, pos, _+ℤ_, _*ℤ_}
 use lib.Signed.{_≤ℤ_}
+use Rattle.whole.specs.Sum.{sum}
+use Rattle.rows.specs.Rows.{rowOf}
+use Rattle.certificate.specs.Problem.{squared}
+use Rattle.certificate.specs.Differences.{formAt}
 use Rattle.packs.specs.declared.Outcome.the-variants.{Refused as Refuses}
 use Rattle.jobs.specs.Words.{wordAt}
+use Rattle.jobs.specs.Job.{Job}
+use Rattle.jobs.specs.Allowed.{Allowed}
 use Rattle.jobs.specs.Packs.{readJob}
 use Rattle.measure.specs.declared.check.Verdict.the-variants.{Accepted, Refused}
+use Rattle.measure.specs.Loss.{fitOf, lossOf}
 use Rattle.measure.specs.Check.{checkOf}
 use Rattle.claims.specs.Read.{jobIn, proposalIn, valuesIn, multipliersIn, lossIn, Reads, BothRead}
 use Rattle.claims.specs.Meets.{EveryInBox, EveryLinkHolds, Meets, scaledLossOf, NoneBelow, NoneNegative}
 use Rattle.claims.specs.Verdicts.{Acceptable, Outside, Broken, Above}
-use Rattle.claims.specs.Worked.{WorkedTable, plain, starred}
+use Rattle.claims.specs.Worked.{WorkedTable, plain, starred, grids}
 
 -- ---- accepted exactly, and what each refusal means
 
@@ -65,6 +73,12 @@ NoTermNegative =
 abbrev pub LossAtMost : Type 0
 LossAtMost = (job proposal : List ℕ) → BothRead job proposal → (pos 0 ≤ℤ lossIn job proposal) × (lossIn job proposal ≤ℤ pos 7600000000000000000)
 
+-- W-205 adds nothing to a job that is no grid: its loss is document 01's, "sum of w(v-u)^2 + k times the sum of D^2" with D at i over the cells i to i+z.
+abbrev pub LineLoss : Type 0
+LineLoss =
+    (j : Job) → Allowed j → j .grid ≡ false → (v : ℕ → ℤ)
+    → lossOf j v ≡ fitOf j v +ℤ j .constant *ℤ sum (j .cells - j .order) (λ i. squared (formAt (rowOf (j .order)) (j .order) 1 i v))
+
 -- ---- demand 3
 
 -- Where the check accepts with F and G, no table that meets the job, fractions included, has a loss below F - G.
@@ -85,3 +99,7 @@ abbrev pub WorkedTables : Type 0
 WorkedTables =
     (map (λ (t : WorkedTable). checkOf (t .job) (t .proposal)) starred ≡ map (λ (t : WorkedTable). t .verdict) starred)
     × (scaledLossOf (jobIn (plain (1 ∷ []) 0 1 0)) (pos 7) (wordAt (pos 2 ∷ pos 3 ∷ pos 2 ∷ [])) ≡ pos 28)
+
+-- W-205: the same of a grid worked by hand.
+abbrev pub WorkedGrid : Type 0
+WorkedGrid = map (λ (t : WorkedTable). checkOf (t .job) (t .proposal)) grids ≡ map (λ (t : WorkedTable). t .verdict) grids

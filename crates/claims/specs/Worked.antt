@@ -57,3 +57,14 @@ starred =
     -- "u 0 1 0, v 0 0 0: F 1, G 1"
     ∷ table (plain (1 ∷ []) 0 1 0) (0 ∷ 0 ∷ 0 ∷ []) (Accepted (pos 1) (pos 1))
     ∷ []
+
+-- W-205: a grid of 2 rows and 2 columns, both orders 1, both constants 1, T 0: order field 5, then rows, columns, the order down, the order across, the second
+-- constant, k and T. With u 0 15 0 0 the values 3 7 2 3 solve (W + Kd'Kd + Ka'Ka)v = Wu: F is 86 of the fit, 17 down and 17 across, G is 0.
+abbrev pub gridJob : List ℕ
+gridJob = 3 ∷ 7 ∷ 4 ∷ 5 ∷ 2 ∷ 2 ∷ 1 ∷ 1 ∷ 1 ∷ 1 ∷ 0 ∷ (cell 0 1 ++ cell 15 1 ++ cell 0 1 ++ cell 0 1 ++ noLink)
+
+abbrev pub grids : List WorkedTable
+grids =
+    table gridJob (3 ∷ 7 ∷ 2 ∷ 3 ∷ []) (Accepted (pos 120) (pos 0))
+    ∷ table gridJob (3 ∷ 7 ∷ 2 ∷ 2 ∷ []) (Refused 9 0)
+    ∷ []

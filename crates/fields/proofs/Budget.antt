@@ -9,11 +9,12 @@ use lib.Dec.{leb, ltb, eqb}
 use Rattle.numbers.specs.Choice.{if_then_else_}
 use Rattle.fields.specs.declared.cells.Cells.{Cells}
 use Rattle.fields.specs.declared.links.Links.{Links}
+use Rattle.fields.specs.declared.shape.Shape.{Shape}
 use Rattle.fields.specs.declared.Field.{Field}
-use Rattle.fields.specs.declared.Field.the-variants.{Society, Job, Count, Order, Constant, Tolerance, Crude, Weight, Floor, Ceiling, LinkCount, TermCount, Cell, Coefficient, Bound, Value, Multiplier, End}
+use Rattle.fields.specs.declared.Field.the-variants.{Society, Job, Count, Order, Rows, Columns, OrderDown, OrderAcross, SecondConstant, Constant, Tolerance, Crude, Weight, Floor, Ceiling, LinkCount, TermCount, Cell, Coefficient, Bound, Value, Multiplier, End}
 use Rattle.fields.specs.declared.Step.{Step}
 use Rattle.fields.specs.declared.Step.the-variants.{Next, NotAllowed, Refused}
-use Rattle.fields.specs.Table.{within, withinSigned, rule, orderUsed, cellsFrom, weighed, afterCeiling, withTerms, afterCoefficient, linksFrom, multipliersFrom, valuesFrom, stepOf}
+use Rattle.fields.specs.Table.{within, withinSigned, rule, orderUsed, lineOf, isLength, areColumns, isOrder, gridOf, withDown, withAcross, afterOrder, cellsFrom, lacking, inRow, nextRow, weighed, nextCell, afterCeiling, withTerms, afterCoefficient, linksFrom, multipliersFrom, valuesFrom, stepOf}
 use Rattle.fields.proofs.Rows.{within-both}
 
 -- ---- the most numbers that can follow, the field's own among them
@@ -32,12 +33,17 @@ abbrev linksLeft : Links → ℕ
 linksLeft l = 10 * (l .links - l .link - 1)
 
 abbrev pub budget : Field → ℕ
-budget Society = 2087
-budget Job = 2086
-budget Count = 2085
-budget (Order n) = 3 + cellNumbers n + linkNumbers
-budget (Constant n z) = 2 + cellNumbers n + linkNumbers
-budget (Tolerance n z) = 1 + cellNumbers n + linkNumbers
+budget Society = 2092
+budget Job = 2091
+budget Count = 2090
+budget (Order n) = 8 + cellNumbers n + linkNumbers
+budget (Rows n) = 7 + cellNumbers n + linkNumbers
+budget (Columns n rows) = 6 + cellNumbers n + linkNumbers
+budget (OrderDown s) = 5 + cellNumbers (s .n) + linkNumbers
+budget (OrderAcross s) = 4 + cellNumbers (s .n) + linkNumbers
+budget (SecondConstant s) = 3 + cellNumbers (s .n) + linkNumbers
+budget (Constant s second) = 2 + cellNumbers (s .n) + linkNumbers
+budget (Tolerance s) = 1 + cellNumbers (s .n) + linkNumbers
 budget (Crude c) = 4 + cellsLeft c
 budget (Weight c) = 3 + cellsLeft c
 budget (Floor c) = 2 + cellsLeft c
@@ -65,8 +71,13 @@ standing Society = 0
 standing Job = 0
 standing Count = 0
 standing (Order n) = 0
-standing (Constant n z) = 0
-standing (Tolerance n z) = 0
+standing (Rows n) = 0
+standing (Columns n rows) = 0
+standing (OrderDown s) = 0
+standing (OrderAcross s) = 0
+standing (SecondConstant s) = 0
+standing (Constant s second) = 0
+standing (Tolerance s) = 0
 standing (LinkCount n) = 0
 standing (Value left links) = 0
 standing (Multiplier left) = 0
@@ -96,7 +107,7 @@ after-ceiling : (c : Cells) (lo hi : ℕ) → Kept (Ceiling c lo) (afterCeiling 
 after-ceiling c lo hi = go (ltb hi lo) (ltb (c .cell + 1) (c .n)) refl (ltb 0 (c .want))
   where
     go : (a b : Bool) → ltb (c .cell + 1) (c .n) ≡ b → (w : Bool)
-        → Kept (Ceiling c lo) (if a then Refused 3 (c .cell) else if b then Next (Crude (record { n = c .n; want = c .want; cell = c .cell + 1 })) else if w then Refused 4 0 else Next (LinkCount (c .n)))
+        → Kept (Ceiling c lo) (if a then Refused 3 (c .cell) else if b then Next (Crude (nextCell c)) else if w then Refused 4 0 else Next (LinkCount (c .n)))
     go true b e w = record { some = omega arith; few = omega arith; near = omega arith }
     go false true e w = let h = ltb-true (c .cell + 1) (c .n) e in record { less = omega arith; slower = omega arith }
     go false false e true = record { some = omega arith; few = omega arith; near = omega arith }
@@ -139,18 +150,38 @@ budget-values left links = go (eqb left 0) refl
 falls : {f g : Field} → budget g + 1 ≤ budget f → standing g ≡ standing f → Onward f g
 falls h e = record { less = h; slower = omega (arith, e) }
 
+after-order : (n x : ℕ) → Kept (Order n) (afterOrder n x)
+after-order n x = go (eqb x 5)
+  where
+    line : Field
+    line = Constant (lineOf n (orderUsed x)) 0
+
+    go : (t : Bool) → Kept (Order n) (if t then Next (Rows n) else rule (ltb (orderUsed x) n) (Next line))
+    go true = falls (omega arith) refl
+    go false = ruled (Order n) (ltb (orderUsed x) n) (Next line) (λ e. falls (omega arith) refl)
+
+after-weight : (c : Cells) (x : ℕ) → Onward (Weight c) (Floor (weighed c x))
+after-weight c x = go (ltb (c .column + 1) (c .columns))
+  where
+    go : (t : Bool) → Onward (Weight c) (Floor (if t then inRow c (lacking (c .lack) x) else nextRow c (lacking (c .lack) x)))
+    go true = falls (omega arith) refl
+    go false = falls (omega arith) refl
+
 pub step-kept : (f : Field) (x : ℕ) → Kept f (stepOf f x)
 unfolding stepOf
 step-kept Society x = ruled Society (within 0 7 x) (Next Job) (λ e. falls (omega arith) refl)
 step-kept Job x = ruled Job (within 0 4294967295 x) (Next Count) (λ e. falls (omega arith) refl)
 step-kept Count x = ruled Count (within 2 120 x) (Next (Order x)) (λ e. falls (omega (arith, within-both 2 120 x e)) refl)
-step-kept (Order n) x =
-    ruled (Order n) (within 0 4 x) (rule (ltb (orderUsed x) n) (Next (Constant n (orderUsed x))))
-    (λ e. ruled (Order n) (ltb (orderUsed x) n) (Next (Constant n (orderUsed x))) (λ e. falls (omega arith) refl))
-step-kept (Constant n z) x = ruled (Constant n z) (within 1 1000 x) (Next (Tolerance n z)) (λ e. falls (omega arith) refl)
-step-kept (Tolerance n z) x = ruled (Tolerance n z) (within 0 1000000000000000 x) (Next (cellsFrom n z)) (λ e. falls (omega arith) refl)
+step-kept (Order n) x = ruled (Order n) (within 0 5 x) (afterOrder n x) (λ e. after-order n x)
+step-kept (Rows n) x = ruled (Rows n) (isLength x) (Next (Columns n x)) (λ e. falls (omega arith) refl)
+step-kept (Columns n rows) x = ruled (Columns n rows) (areColumns n rows x) (Next (OrderDown (gridOf n rows x))) (λ e. falls (omega arith) refl)
+step-kept (OrderDown s) x = ruled (OrderDown s) (isOrder (s .rows) x) (Next (OrderAcross (withDown s x))) (λ e. falls (omega arith) refl)
+step-kept (OrderAcross s) x = ruled (OrderAcross s) (isOrder (s .columns) x) (Next (SecondConstant (withAcross s x))) (λ e. falls (omega arith) refl)
+step-kept (SecondConstant s) x = ruled (SecondConstant s) (within 1 999 x) (Next (Constant s x)) (λ e. falls (omega arith) refl)
+step-kept (Constant s second) x = ruled (Constant s second) (within 1 (1000 - second) x) (Next (Tolerance s)) (λ e. falls (omega arith) refl)
+step-kept (Tolerance s) x = ruled (Tolerance s) (within 0 1000000000000000 x) (Next (cellsFrom s)) (λ e. falls (omega arith) refl)
 step-kept (Crude c) x = ruled (Crude c) (within 0 1000000 x) (Next (Weight c)) (λ e. falls (omega arith) refl)
-step-kept (Weight c) x = ruled (Weight c) (within 0 1000 x) (Next (Floor (weighed c x))) (λ e. falls (omega arith) refl)
+step-kept (Weight c) x = ruled (Weight c) (within 0 1000 x) (Next (Floor (weighed c x))) (λ e. after-weight c x)
 step-kept (Floor c) x = ruled (Floor c) (within 0 1000000 x) (Next (Ceiling c x)) (λ e. falls (omega arith) refl)
 step-kept (Ceiling c lo) x = ruled (Ceiling c lo) (within 0 1000000 x) (afterCeiling c lo x) (λ e. after-ceiling c lo x)
 step-kept (LinkCount n) x =

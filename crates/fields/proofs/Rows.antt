@@ -7,7 +7,7 @@ use borrow.Author.Tests.{leb-true, ltb-true, ltb-false}
 use lib.Dec.{leb, ltb}
 use Rattle.numbers.proofs.Clash.{clash}
 use Rattle.fields.specs.declared.Field.{Field}
-use Rattle.fields.specs.declared.Field.the-variants.{Society, Job, Count, Order, Constant, Tolerance, Crude, Weight, Floor, Ceiling, LinkCount, TermCount, Cell, Coefficient, Bound, Value, Multiplier, End}
+use Rattle.fields.specs.declared.Field.the-variants.{Society, Job, Count, Order, Rows, Columns, OrderDown, OrderAcross, SecondConstant, Constant, Tolerance, Crude, Weight, Floor, Ceiling, LinkCount, TermCount, Cell, Coefficient, Bound, Value, Multiplier, End}
 use Rattle.fields.specs.declared.Step.{Step}
 use Rattle.fields.specs.declared.Step.the-variants.{Next, NotAllowed}
 use Rattle.fields.specs.Table.{within, rule, signedAt, endAt, stepOf}
@@ -46,8 +46,13 @@ signed-large Society x t h = clash (cc)
 signed-large Job x t h = clash (cc)
 signed-large Count x t h = clash (cc)
 signed-large (Order a) x t h = clash (cc)
+signed-large (Rows a) x t h = clash (cc)
+signed-large (Columns a b) x t h = clash (cc)
+signed-large (OrderDown a) x t h = clash (cc)
+signed-large (OrderAcross a) x t h = clash (cc)
+signed-large (SecondConstant a) x t h = clash (cc)
 signed-large (Constant a b) x t h = clash (cc)
-signed-large (Tolerance a b) x t h = clash (cc)
+signed-large (Tolerance a) x t h = clash (cc)
 signed-large (Crude a) x t h = clash (cc)
 signed-large (Weight a) x t h = clash (cc)
 signed-large (Floor a) x t h = clash (cc)
@@ -75,8 +80,13 @@ end-only Society e = clash (cc)
 end-only Job e = clash (cc)
 end-only Count e = clash (cc)
 end-only (Order a) e = clash (cc)
+end-only (Rows a) e = clash (cc)
+end-only (Columns a b) e = clash (cc)
+end-only (OrderDown a) e = clash (cc)
+end-only (OrderAcross a) e = clash (cc)
+end-only (SecondConstant a) e = clash (cc)
 end-only (Constant a b) e = clash (cc)
-end-only (Tolerance a b) e = clash (cc)
+end-only (Tolerance a) e = clash (cc)
 end-only (Crude a) e = clash (cc)
 end-only (Weight a) e = clash (cc)
 end-only (Floor a) e = clash (cc)

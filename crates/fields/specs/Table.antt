@@ -6,8 +6,9 @@ use lib.Dec.{leb, ltb, eqb}
 use Rattle.numbers.specs.Choice.{if_then_else_}
 use Rattle.fields.specs.declared.cells.Cells.{Cells}
 use Rattle.fields.specs.declared.links.Links.{Links}
+use Rattle.fields.specs.declared.shape.Shape.{Shape}
 use Rattle.fields.specs.declared.Field.{Field}
-use Rattle.fields.specs.declared.Field.the-variants.{Society, Job, Count, Order, Constant, Tolerance, Crude, Weight, Floor, Ceiling, LinkCount, TermCount, Cell, Coefficient, Bound, Value, Multiplier, End}
+use Rattle.fields.specs.declared.Field.the-variants.{Society, Job, Count, Order, Rows, Columns, OrderDown, OrderAcross, SecondConstant, Constant, Tolerance, Crude, Weight, Floor, Ceiling, LinkCount, TermCount, Cell, Coefficient, Bound, Value, Multiplier, End}
 use Rattle.fields.specs.declared.Step.{Step}
 use Rattle.fields.specs.declared.Step.the-variants.{Next, NotAllowed, Refused}
 
@@ -29,19 +30,67 @@ houseOrder = 2
 abbrev pub orderUsed : ℕ → ℕ
 orderUsed x = if eqb x 0 then houseOrder else x
 
--- The first cell, with z positive weights wanted in all.
-abbrev pub cellsFrom : (n z : ℕ) → Field
-cellsFrom n z = Crude (record { n = n; want = z; cell = 0 })
+-- A one-dimensional job is a grid of one column: as many rows as cells, the order used goes down, and one cell fills a row.
+abbrev pub lineOf : (n z : ℕ) → Shape
+lineOf n z = record { n = n; rows = n; columns = 1; down = z; across = 1 }
 
--- How many positive weights are still wanted after a cell of weight x.
+-- W-205: "rows, columns (each at least 2, product n)": the product is tested at the columns, the later of the two.
+abbrev pub isLength : ℕ → Bool
+isLength x = leb 2 x
+
+abbrev pub areColumns : (n rows : ℕ) → ℕ → Bool
+areColumns n rows x = leb 2 x && eqb (rows * x) n
+
+-- "the order down, the order across (each 1..4, less than its length)"
+abbrev pub isOrder : (length : ℕ) → ℕ → Bool
+isOrder length x = within 1 4 x && ltb x length
+
+-- The shape of a grid, as far as its numbers were read.
+abbrev pub gridOf : (n rows columns : ℕ) → Shape
+gridOf n rows columns = record { n = n; rows = rows; columns = columns; down = 0; across = 0 }
+
+abbrev pub withDown : Shape → ℕ → Shape
+withDown s x = record { n = s .n; rows = s .rows; columns = s .columns; down = x; across = 0 }
+
+abbrev pub withAcross : Shape → ℕ → Shape
+withAcross s x = record { n = s .n; rows = s .rows; columns = s .columns; down = s .down; across = x }
+
+-- "Order field 5 announces a grid"; any other is the order of a line, and there is no second constant.
+abbrev pub gridField : ℕ
+gridField = 5
+
+abbrev pub afterOrder : (n : ℕ) → ℕ → Step
+afterOrder n x = if eqb x gridField then Next (Rows n) else rule (ltb (orderUsed x) n) (Next (Constant (lineOf n (orderUsed x)) 0))
+
+-- The first cell: as many rows wanted as the order down, each with as many positive weights as the order across.
+abbrev pub cellsFrom : Shape → Field
+cellsFrom s = Crude (record { n = s .n; columns = s .columns; across = s .across; want = s .down; lack = s .across; column = 0; cell = 0 })
+
+-- The positive weights that a row still lacks after a cell of weight x, and the rows still wanted after a row that lacks so many.
+abbrev pub lacking : (lack x : ℕ) → ℕ
+lacking lack x = if ltb 0 x then lack - 1 else lack
+
+abbrev pub wanted : (want lack : ℕ) → ℕ
+wanted want lack = if eqb lack 0 then want - 1 else want
+
+-- After a cell of weight x: the next cell of its row, or the first of the next row.
+abbrev pub inRow : Cells → (lack : ℕ) → Cells
+inRow c lack = record { n = c .n; columns = c .columns; across = c .across; want = c .want; lack = lack; column = c .column + 1; cell = c .cell }
+
+abbrev pub nextRow : Cells → (lack : ℕ) → Cells
+nextRow c lack = record { n = c .n; columns = c .columns; across = c .across; want = wanted (c .want) lack; lack = c .across; column = 0; cell = c .cell }
+
 abbrev pub weighed : Cells → ℕ → Cells
-weighed c x = record { n = c .n; want = if ltb 0 x then c .want - 1 else c .want; cell = c .cell }
+weighed c x = if ltb (c .column + 1) (c .columns) then inRow c (lacking (c .lack) x) else nextRow c (lacking (c .lack) x)
 
--- "3 after each hi; 4 after the last cell"
+abbrev pub nextCell : Cells → Cells
+nextCell c = record { n = c .n; columns = c .columns; across = c .across; want = c .want; lack = c .lack; column = c .column; cell = c .cell + 1 }
+
+-- "3 after each hi; 4 after the last cell"; W-205: "4 when fewer rows than the order down hold at least the order across of positive weights"
 abbrev pub afterCeiling : Cells → (lo hi : ℕ) → Step
 afterCeiling c lo hi =
     if ltb hi lo then Refused 3 (c .cell) else
-    if ltb (c .cell + 1) (c .n) then Next (Crude (record { n = c .n; want = c .want; cell = c .cell + 1 })) else
+    if ltb (c .cell + 1) (c .n) then Next (Crude (nextCell c)) else
     if ltb 0 (c .want) then Refused 4 0 else
     Next (LinkCount (c .n))
 
@@ -73,14 +122,19 @@ multipliersFrom left = if eqb left 0 then End else Multiplier left
 abbrev pub valuesFrom : (left links : ℕ) → Field
 valuesFrom left links = if eqb left 0 then multipliersFrom links else Value left links
 
--- The table. A coefficient and a bound stand in their stored form.
+-- The table. A coefficient and a bound stand in their stored form. W-205: "both constants are at least 1 and together at most 1,000", tested at k.
 unfoldable pub stepOf : Field → ℕ → Step
 stepOf Society x = rule (within 0 7 x) (Next Job)
 stepOf Job x = rule (within 0 4294967295 x) (Next Count)
 stepOf Count x = rule (within 2 120 x) (Next (Order x))
-stepOf (Order n) x = rule (within 0 4 x) (rule (ltb (orderUsed x) n) (Next (Constant n (orderUsed x))))
-stepOf (Constant n z) x = rule (within 1 1000 x) (Next (Tolerance n z))
-stepOf (Tolerance n z) x = rule (within 0 1000000000000000 x) (Next (cellsFrom n z))
+stepOf (Order n) x = rule (within 0 5 x) (afterOrder n x)
+stepOf (Rows n) x = rule (isLength x) (Next (Columns n x))
+stepOf (Columns n rows) x = rule (areColumns n rows x) (Next (OrderDown (gridOf n rows x)))
+stepOf (OrderDown s) x = rule (isOrder (s .rows) x) (Next (OrderAcross (withDown s x)))
+stepOf (OrderAcross s) x = rule (isOrder (s .columns) x) (Next (SecondConstant (withAcross s x)))
+stepOf (SecondConstant s) x = rule (within 1 999 x) (Next (Constant s x))
+stepOf (Constant s second) x = rule (within 1 (1000 - second) x) (Next (Tolerance s))
+stepOf (Tolerance s) x = rule (within 0 1000000000000000 x) (Next (cellsFrom s))
 stepOf (Crude c) x = rule (within 0 1000000 x) (Next (Weight c))
 stepOf (Weight c) x = rule (within 0 1000 x) (Next (Floor (weighed c x)))
 stepOf (Floor c) x = rule (within 0 1000000 x) (Next (Ceiling c x))
@@ -102,8 +156,13 @@ signedAt Society = false
 signedAt Job = false
 signedAt Count = false
 signedAt (Order n) = false
-signedAt (Constant n z) = false
-signedAt (Tolerance n z) = false
+signedAt (Rows n) = false
+signedAt (Columns n rows) = false
+signedAt (OrderDown s) = false
+signedAt (OrderAcross s) = false
+signedAt (SecondConstant s) = false
+signedAt (Constant s second) = false
+signedAt (Tolerance s) = false
 signedAt (Crude c) = false
 signedAt (Weight c) = false
 signedAt (Floor c) = false
@@ -122,8 +181,13 @@ endAt Society = false
 endAt Job = false
 endAt Count = false
 endAt (Order n) = false
-endAt (Constant n z) = false
-endAt (Tolerance n z) = false
+endAt (Rows n) = false
+endAt (Columns n rows) = false
+endAt (OrderDown s) = false
+endAt (OrderAcross s) = false
+endAt (SecondConstant s) = false
+endAt (Constant s second) = false
+endAt (Tolerance s) = false
 endAt (Crude c) = false
 endAt (Weight c) = false
 endAt (Floor c) = false

@@ -4,12 +4,14 @@ pub mod cells;
 pub mod limits;
 pub mod links;
 pub mod proposal;
+pub mod shape;
 
 use crate::cells::Cells;
 use crate::cells::after_ceiling;
 use crate::cells::first_cell;
 use crate::cells::with_weight;
 use crate::limits::is_within;
+use crate::limits::less;
 use crate::limits::order_used;
 use crate::links::Links;
 use crate::links::after_bound;
@@ -19,11 +21,18 @@ use crate::links::first_link;
 use crate::links::with_terms;
 use crate::proposal::after_multiplier;
 use crate::proposal::after_value;
+use crate::shape::Shape;
+use crate::shape::are_columns;
+use crate::shape::grid_of;
+use crate::shape::is_order;
+use crate::shape::line_of;
+use crate::shape::with_across;
+use crate::shape::with_down;
 ghost use mathlib.Core.Path.{_≡_};
-ghost use lib.Dec.{ltb};
-ghost use Rattle.fields.specs.declared.Field.the-variants.{Constant};
+ghost use Rattle.fields.specs.declared.Field.the-variants.{Tolerance};
+ghost use Prim.Native.Nat.{_-_};
 ghost use Rattle.fields.specs.declared.Step.the-variants.{Next};
-ghost use Rattle.fields.specs.Table.{orderUsed, withinSigned, rule, afterCoefficient, stepOf, signedAt, endAt};
+ghost use Rattle.fields.specs.Table.{within, withinSigned, rule, afterOrder, afterCoefficient, stepOf, signedAt, endAt};
 
 // The field whose number comes next, with what the numbers before it fix.
 pub enum Field {
@@ -31,8 +40,13 @@ pub enum Field {
     Job,
     Count,
     Order(u64),
-    Constant(u64, u64),
-    Tolerance(u64, u64),
+    Rows(u64),
+    Columns(u64, u64),
+    OrderDown(Shape),
+    OrderAcross(Shape),
+    SecondConstant(Shape),
+    Constant(Shape, u64),
+    Tolerance(Shape),
     Crude(Cells),
     Weight(Cells),
     Floor(Cells),
@@ -69,12 +83,25 @@ fn next_if(allowed: bool, f: Field) -> Step
     ruled(allowed, Step::Next(f))
 }
 
-// The order used has to be less than the count of cells.
+// Order field 5 announces a grid; any other order used has to be less than the count of cells.
 fn after_order(n: u64, x: u64) -> Step
-    ensures { λ r. ⌜ r ≡ rule (ltb (orderUsed x) n) (Next (Constant n (orderUsed x))) ⌝ }
+    ensures { λ r. ⌜ r ≡ afterOrder n x ⌝ }
 {
+    if x == limits::GRID {
+        return Step::Next(Field::Rows(n));
+    }
     let z = order_used(x);
-    next_if(z < n, Field::Constant(n, z))
+    next_if(z < n, Field::Constant(line_of(n, z), 0))
+}
+
+// k, after a second constant.
+fn after_constant(s: Shape, second: u64, x: u64) -> Step
+    ensures { λ r. ⌜ r ≡ rule (within 1 (1000 - second) x) (Next (Tolerance s)) ⌝ }
+{
+    next_if(
+        is_within(1, less(limits::CONSTANT, second), x),
+        Field::Tolerance(s),
+    )
 }
 
 // A coefficient in its stored form.
@@ -116,9 +143,23 @@ pub fn after(f: Field, x: u64) -> Step
         Field::Society => next_if(is_within(0, limits::SOCIETY, x), Field::Job),
         Field::Job => next_if(is_within(0, limits::JOB, x), Field::Count),
         Field::Count => next_if(is_within(2, limits::CELLS, x), Field::Order(x)),
-        Field::Order(n) => ruled(is_within(0, limits::ORDER, x), after_order(n, x)),
-        Field::Constant(n, z) => next_if(is_within(1, limits::CONSTANT, x), Field::Tolerance(n, z)),
-        Field::Tolerance(n, z) => next_if(is_within(0, limits::TOLERANCE, x), first_cell(n, z)),
+        Field::Order(n) => ruled(is_within(0, limits::GRID, x), after_order(n, x)),
+        Field::Rows(n) => next_if(2 <= x, Field::Columns(n, x)),
+        Field::Columns(n, rows) => next_if(
+            are_columns(n, rows, x),
+            Field::OrderDown(grid_of(n, rows, x)),
+        ),
+        Field::OrderDown(s) => next_if(is_order(s.rows, x), Field::OrderAcross(with_down(s, x))),
+        Field::OrderAcross(s) => next_if(
+            is_order(s.columns, x),
+            Field::SecondConstant(with_across(s, x)),
+        ),
+        Field::SecondConstant(s) => next_if(
+            is_within(1, limits::SECOND_CONSTANT, x),
+            Field::Constant(s, x),
+        ),
+        Field::Constant(s, second) => after_constant(s, second, x),
+        Field::Tolerance(s) => next_if(is_within(0, limits::TOLERANCE, x), first_cell(s)),
         Field::Crude(c) => next_if(is_within(0, limits::RATE, x), Field::Weight(c)),
         Field::Weight(c) => next_if(
             is_within(0, limits::WEIGHT, x),

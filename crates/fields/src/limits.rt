@@ -1,6 +1,6 @@
 // What document 01 allows at most ("Numbers allowed"), and the tests against it.
 ghost use mathlib.Core.Path.{_≡_};
-ghost use Prim.Native.Nat.{_+_};
+ghost use Prim.Native.Nat.{_+_, _-_};
 ghost use lib.Dec.{ltb};
 ghost use Rattle.fields.specs.Table.{within, orderUsed};
 
@@ -12,6 +12,12 @@ pub const CELLS: u64 = 120;
 
 pub const ORDER: u64 = 4;
 
+// The order field that announces a grid.
+pub const GRID: u64 = 5;
+
+pub const SECOND_CONSTANT: u64 = 999;
+
+// Both constants together.
 pub const CONSTANT: u64 = 1000;
 
 pub const TOLERANCE: u64 = 1000000000000000;
@@ -40,6 +46,23 @@ pub fn is_within(least: u64, most: u64, x: u64) -> bool
         return x <= most;
     }
     false
+}
+
+// How far b lies below a, and 0 if it does not.
+pub fn less(a: u64, b: u64) -> u64
+    ensures { λ r. ⌜ r ≡ a - b ⌝ }
+{
+    if b < a {
+        return a - b;
+    }
+    0
+}
+
+// One fewer, and none fewer than none.
+pub fn fewer(left: u64) -> u64
+    ensures { λ r. ⌜ r ≡ left - 1 ⌝ }
+{
+    less(left, 1)
 }
 
 // Whether there is another after the one numbered `i` of `n`.

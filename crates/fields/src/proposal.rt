@@ -1,5 +1,6 @@
 // The fields of a proposal pack: the values, then a multiplier for each link.
 use crate::Field;
+use crate::limits::fewer;
 ghost use mathlib.Core.Path.{_≡_};
 ghost use Prim.Native.Nat.{_-_};
 ghost use Rattle.fields.specs.Table.{valuesFrom, multipliersFrom};
@@ -21,16 +22,6 @@ pub fn values_from(left: u64, links: u64) -> Field
         return multipliers_from(links);
     }
     Field::Value(left, links)
-}
-
-// One fewer, and none fewer than none.
-fn fewer(left: u64) -> u64
-    ensures { λ r. ⌜ r ≡ left - 1 ⌝ }
-{
-    if 0 < left {
-        return left - 1;
-    }
-    0
 }
 
 pub fn after_value(left: u64, links: u64) -> Field

@@ -31,8 +31,8 @@ use Rattle.jobs.specs.Packs.{readJob, readProposal, writeProposal}
 use Rattle.jobs.proofs.Places.{zeros-at}
 use Rattle.jobs.proofs.Readings.{read-jobs-allowed, six-done}
 use Rattle.jobs.proofs.Trips.{proposals-read-back}
-use Rattle.house.specs.declared.factor.Ending.{Ending}
-use Rattle.house.specs.declared.factor.Ending.the-variants.{Whole, Thin}
+use Rattle.factor.specs.declared.Ending.{Ending}
+use Rattle.factor.specs.declared.Ending.the-variants.{Whole, Thin}
 use Rattle.house.specs.Proposal.{solvedOf, valueOf, wordsOf, onEnding, proposedOf, onJobRead}
 use Rattle.house.specs.Promises.{Fit, ProposalsFit, ProposalsCounted}
 use Rattle.house.proofs.Boxed.{value-between, value-small}
@@ -71,7 +71,12 @@ on-ending room j v (Thin cell pivot) n h = clash (cc)
 
 proposed : (room : ℕ) (j : Job) (n : ℕ) → proposedOf room j .outcome ≡ Done n → Done-by room j (proposedOf room j) n
 unfolding proposedOf
-proposed room j n h = on-ending room j (solvedOf j .values) (solvedOf j .ending) n h
+proposed room j n h = go (ltb 12 (j .columns)) h
+  where
+    go : (b : Bool) → (if b then refused 20 0 else onEnding room j (solvedOf j .values) (solvedOf j .ending)) .outcome ≡ Done n
+        → Done-by room j (if b then refused 20 0 else onEnding room j (solvedOf j .values) (solvedOf j .ending)) n
+    go true h = clash (cc)
+    go false h = on-ending room j (solvedOf j .values) (solvedOf j .ending) n h
 
 -- the job was read, and its proposal is done
 record Read-by (room : ℕ) (ws : List ℤ) (o : Outcome) (r : Written) (n : ℕ) : Type 0 where

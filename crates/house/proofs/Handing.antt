@@ -1,13 +1,16 @@
 -- From the pack to the solve and from the values to the pack: the scratch that a job is read into holds its words, and what is written are the
 -- proposal's words.
-use Prim.Native.Nat.{ℕ, zero, suc, _+_, _-_, _≤_}
+use Prim.Native.Nat.{ℕ, zero, suc, _+_, _-_, _≤_, _<_}
 use mathlib.Core.Path.{_≡_, refl, sym, ap, _∙_}
+use mathlib.Core.Bool.{Bool}
 use mathlib.Core.List.{List, _∷_}
 use native.Mathlib.Omega.{arith}
+use borrow.Author.Tests.{lt-ltb, le-ltb}
 use lib.IntN.{ℤ, pos}
 use lib.Ieee.{Float, nan}
 use lib.ListN.{getD, take, replicate}
 use lib.Seq.{sets}
+use Rattle.numbers.specs.Choice.{if_then_else_}
 use Rattle.packs.specs.declared.Outcome.the-variants.{Done}
 use Rattle.packs.specs.Writing.{Written, refused}
 use Rattle.jobs.specs.Job.{Job}
@@ -15,7 +18,7 @@ use Rattle.jobs.specs.Words.{jobOf}
 use Rattle.jobs.specs.Packs.{readJob}
 use Rattle.jobs.proofs.Readings.{read-jobs-allowed, read-jobs-laid}
 use Rattle.jobs.proofs.Handed.{scratch-part}
-use Rattle.house.specs.declared.factor.Ending.the-variants.{Whole, Thin}
+use Rattle.factor.specs.declared.Ending.the-variants.{Whole, Thin}
 use Rattle.house.specs.declared.proposal.Solved.{Solved}
 use Rattle.house.specs.Known.{Known}
 use Rattle.house.specs.Filled.{filled}
@@ -24,7 +27,7 @@ use Rattle.house.proofs.Fills.{take-filled}
 
 -- ---- the words of the job
 
-module _ (s : List ℕ) {k : ℕ} (e : readJob s .outcome ≡ Done k) {scratch : List ℤ} (stored : scratch ≡ sets (replicate 2087 (pos 0)) 0 (readJob s .words)) where
+module _ (s : List ℕ) {k : ℕ} (e : readJob s .outcome ≡ Done k) {scratch : List ℤ} (stored : scratch ≡ sets (replicate 2092 (pos 0)) 0 (readJob s .words)) where
   pub part-known : Known (take (k - 0) scratch)
   part-known = rw (scratch-part s e stored) (record { allowed = read-jobs-allowed s k e; laid = read-jobs-laid s k e })
 
@@ -34,10 +37,16 @@ module _ (s : List ℕ) {k : ℕ} (e : readJob s .outcome ≡ Done k) {scratch :
 
 -- ---- the case that the factoring's ending picks
 
-module _ (room : ℕ) (j : Job) {s : Solved} (e : s ≡ solvedOf j) where
+-- a grid of more than 12 columns
+pub wide-refused : (room : ℕ) (j : Job) → 12 < j .columns → refused 20 0 ≡ proposedOf room j
+unfolding proposedOf
+wide-refused room j h = ap {B = Written} (λ (b : Bool). if b then refused 20 0 else onEnding room j (solvedOf j .values) (solvedOf j .ending)) (sym (lt-ltb 12 (j .columns) h))
+
+module _ (room : ℕ) (j : Job) (few : j .columns ≤ 12) {s : Solved} (e : s ≡ solvedOf j) where
   case : onEnding room j (s .values) (s .ending) ≡ proposedOf room j
   unfolding proposedOf
   case = ap {B = Written} (λ (s : Solved). onEnding room j (s .values) (s .ending)) e
+      ∙ ap {B = Written} (λ (b : Bool). if b then refused 20 0 else onEnding room j (solvedOf j .values) (solvedOf j .ending)) (sym (le-ltb 12 (j .columns) few))
 
   pub thin-refused : {cell : ℕ} {x : Float} → s .ending ≡ Thin cell x → refused 10 cell ≡ proposedOf room j
   thin-refused t = ap {B = Written} (onEnding room j (s .values)) (sym t) ∙ case

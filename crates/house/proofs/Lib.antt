@@ -2,10 +2,14 @@
 pub mod Told
 pub mod Sizes
 pub mod Fills
-pub mod Turns
 pub mod Halves
 pub mod Nearest
 pub mod Boxed
+pub mod Steps
+pub mod Places
+pub mod Shaped
+pub mod Spread
+pub mod Squares
 pub mod Solving
 pub mod Handing
 pub mod Fitting

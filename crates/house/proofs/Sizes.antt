@@ -62,11 +62,11 @@ squares-small n z i o h = N.le-trans (partial-small (squares-adds n z i o h) (su
 
 -- ---- an entry of A
 
-module _ (w k s : ℤ) (hw : natAbs w ≤ 1000) (hk : natAbs k ≤ 1000) (hs : natAbs s ≤ 180) where
+module _ (w k s : ℤ) (hw : natAbs w ≤ 181000) (hk : natAbs k ≤ 1000) (hs : natAbs s ≤ 180) where
   smooth-small : natAbs (k *ℤ s) ≤ 180000
   smooth-small = bound-* k s hk hs
 
-  sum-small : natAbs (w +ℤ k *ℤ s) ≤ 181000
+  sum-small : natAbs (w +ℤ k *ℤ s) ≤ 361000
   sum-small = bound-+ w (k *ℤ s) hw smooth-small
 
   pub smooth-fits : {a b : ℤ} → a ≡ k → b ≡ s → SFits w64 (toZ w64 (ofZ w64 a) *ℤ toZ w64 (ofZ w64 b))

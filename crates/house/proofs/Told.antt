@@ -1,18 +1,15 @@
 -- What is known of the words of a job that was read: where they stand, and how large they are.
-use Prim.Native.Nat.{ℕ, _+_, _*_, _^_, _≤_, _<_}
+use Prim.Native.Nat.{ℕ, _^_, _≤_, _<_}
 use mathlib.Core.Path.{_≡_}
 use mathlib.Core.List.{List}
 use lib.Dec.{lit<}
 use lib.IntN.{ℤ, natAbs}
-use lib.ListN.{length}
 use mir.Syntax.{w64}
 use mir.Val.{toZ, ofZ}
 use mir.Facts.{toZ-ofZ}
-use Rattle.fields.specs.Table.{orderUsed}
-use Rattle.whole.proofs.Fits.{small-fits}
-use Rattle.jobs.specs.Words.{wordAt, countAt, cellsOf, linksOf}
+use Rattle.whole.proofs.Fits.{small-fits, gives}
+use Rattle.jobs.specs.Words.{cellsOf, orderOf, linksOf, jobOf}
 use Rattle.jobs.specs.Allowed.{Upto}
-use Rattle.jobs.proofs.Places.{cells-inside}
 use Rattle.house.specs.Known.{Known}
 
 -- a word that is passed on
@@ -26,27 +23,39 @@ module _ {ws : List ℤ} (k : Known ws) where
   pub cells-few : cellsOf ws ≤ 120
   cells-few = k .allowed .cells-few
 
-  pub inside : 7 + 4 * cellsOf ws ≤ length ws
-  inside = cells-inside (k .laid)
-
-  pub order-few : orderUsed (countAt ws 3) ≤ 4
+  pub order-few : orderOf ws ≤ 4
   order-few = k .allowed .order-few
 
   pub links-few : linksOf ws ≤ 160
   links-few = k .allowed .links-few
 
-  pub constant-small : natAbs (wordAt ws 4) ≤ 1000
+  pub constant-small : natAbs (jobOf ws .constant) ≤ 1000
   constant-small = k .allowed .constant .small
 
+  pub constant-is : {x : ℤ} → x ≡ jobOf ws .constant → toZ w64 (ofZ w64 x) ≡ jobOf ws .constant
+  constant-is e = gives e (small-fits (jobOf ws .constant) constant-small (lit< tt))
+
   module _ {i : ℕ} (h : i < cellsOf ws) where
-    pub crude-small : natAbs (wordAt ws (6 + 4 * i)) ≤ 1000000
+    pub crude-small : natAbs (jobOf ws .crude i) ≤ 1000000
     crude-small = k .allowed .cell i h .crude .small
 
-    pub weight-small : natAbs (wordAt ws (7 + 4 * i)) ≤ 1000
+    pub weight-small : natAbs (jobOf ws .weight i) ≤ 1000
     weight-small = k .allowed .cell i h .weight .small
 
-    pub floor-word : Upto 1000000 (wordAt ws (8 + 4 * i))
+    pub crude-is : {x : ℤ} → x ≡ jobOf ws .crude i → toZ w64 (ofZ w64 x) ≡ jobOf ws .crude i
+    crude-is e = gives e (small-fits (jobOf ws .crude i) crude-small (lit< tt))
+
+    pub weight-is : {x : ℤ} → x ≡ jobOf ws .weight i → toZ w64 (ofZ w64 x) ≡ jobOf ws .weight i
+    weight-is e = gives e (small-fits (jobOf ws .weight i) weight-small (lit< tt))
+
+    pub floor-word : Upto 1000000 (jobOf ws .floor i)
     floor-word = k .allowed .cell i h .floor
 
-    pub ceiling-word : Upto 1000000 (wordAt ws (9 + 4 * i))
+    pub ceiling-word : Upto 1000000 (jobOf ws .ceiling i)
     ceiling-word = k .allowed .cell i h .ceiling
+
+    pub floor-is : {x : ℤ} → x ≡ jobOf ws .floor i → toZ w64 (ofZ w64 x) ≡ jobOf ws .floor i
+    floor-is e = gives e (small-fits (jobOf ws .floor i) (floor-word .small) (lit< tt))
+
+    pub ceiling-is : {x : ℤ} → x ≡ jobOf ws .ceiling i → toZ w64 (ofZ w64 x) ≡ jobOf ws .ceiling i
+    ceiling-is e = gives e (small-fits (jobOf ws .ceiling i) (ceiling-word .small) (lit< tt))

@@ -2,8 +2,10 @@
 pub mod Known
 pub mod Filled
 pub mod Band
-pub mod Factor
-pub mod Solve
+pub mod Factoring
+pub mod Grid
+pub mod Squares
+pub mod Held
 pub mod Rounding
 pub mod Proposal
 pub mod Promises

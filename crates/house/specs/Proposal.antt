@@ -1,36 +1,40 @@
 -- The house proposal (document 01, "The house proposal", and "Order": "For the house proposal 10 follows the job. Output room comes last, when the
--- needed length is known.").
+-- needed length is known."; document 02, W-205: "The house proposal covers grids of at most 12 columns").
 use Prim.Native.Nat.{ℕ, _+_}
 use mathlib.Core.List.{List}
+use lib.Dec.{ltb}
 use lib.IntN.{ℤ, pos, natAbs}
 use lib.ListN.{getD, replicate}
 use lib.Ieee.{Float, nan}
+use Rattle.numbers.specs.Choice.{if_then_else_}
 use Rattle.packs.specs.declared.Outcome.{Outcome}
 use Rattle.packs.specs.declared.Outcome.the-variants.{Done, Refused}
 use Rattle.packs.specs.Writing.{Written, refused, roomed}
 use Rattle.jobs.specs.Job.{Job}
 use Rattle.jobs.specs.Words.{jobOf}
 use Rattle.jobs.specs.Packs.{readJob, writeProposal}
-use Rattle.house.specs.declared.factor.Ending.{Ending}
-use Rattle.house.specs.declared.factor.Ending.the-variants.{Whole, Thin}
+use Rattle.factor.specs.declared.Ending.{Ending}
+use Rattle.factor.specs.declared.Ending.the-variants.{Whole, Thin}
 use Rattle.house.specs.declared.proposal.Solved.{Solved}
 use Rattle.house.specs.Filled.{filled}
-use Rattle.house.specs.Band.{bandOf, rightOf, zero64}
-use Rattle.house.specs.Factor.{Factor, factorOf}
-use Rattle.house.specs.Solve.{solutionOf}
+use Rattle.house.specs.Band.{bandOf, rightOf}
+use Rattle.house.specs.Factoring.{rowsOf, solvedWith}
+use Rattle.house.specs.Grid.{gridIn, gridSolved}
 use Rattle.house.specs.Rounding.{roundedOut}
 
--- "It solves (W + kK'K)v = Wu in f64, links ignored": the values before rounding, where no pivot is thin.
-abbrev pub solvedBy : Job → (d : List Float) (l : List (List Float)) → Ending → Solved
-solvedBy j d l Whole = record { ending = Whole; values = solutionOf d l (j .order) (j .cells) (rightOf j) }
-solvedBy j d l (Thin cell pivot) = record { ending = Thin cell pivot; values = replicate 120 zero64 }
+-- "It solves (W + kK'K)v = Wu in f64, links ignored": the values before rounding, where no pivot is thin, of a job that is no grid.
+unfoldable pub lineSolved : Job → Solved
+unfolding solvedWith
+lineSolved j = solvedWith 4 (rowsOf (bandOf j)) (j .order) (j .cells) (rightOf j)
 
-unfoldable pub factorFor : Job → Factor
-factorFor j = factorOf (bandOf j) (j .order) (j .cells)
-
+-- The same of any job: "by 01's steps with z there the order down times the columns" where it is a grid.
 unfoldable pub solvedOf : Job → Solved
-unfolding factorFor
-solvedOf j = solvedBy j (factorFor j .pivots) (factorFor j .multipliers) (factorFor j .ending)
+unfolding lineSolved gridSolved
+solvedOf j = if j .grid then gridSolved (gridIn j) else lineSolved j
+
+-- "grids of at most 12 columns"
+abbrev pub mostColumns : ℕ
+mostColumns = 12
 
 -- A value rounded out into the box of its cell.
 abbrev pub valueOf : Job → (i : ℕ) → Float → ℤ
@@ -49,9 +53,10 @@ abbrev pub onEnding : (room : ℕ) → Job → List Float → Ending → Written
 onEnding room j v Whole = writtenOf room j v
 onEnding room j v (Thin cell pivot) = refused 10 cell
 
+-- "20 for a wider grid at the house proposal, before 10, place 0"
 unfoldable pub proposedOf : (room : ℕ) → Job → Written
 unfolding solvedOf
-proposedOf room j = onEnding room j (solvedOf j .values) (solvedOf j .ending)
+proposedOf room j = if ltb mostColumns (j .columns) then refused 20 0 else onEnding room j (solvedOf j .values) (solvedOf j .ending)
 
 -- The proposal for a job pack: the job's own refusals come first.
 abbrev pub onJobRead : (room : ℕ) → List ℤ → Outcome → Written

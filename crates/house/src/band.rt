@@ -1,5 +1,8 @@
 // The band of A = W + kK'K and the right side Wu: whole numbers, cast exactly.
-use crate::factor::CELLS;
+use factor::CELLS;
+use jobs::words::constant_of;
+use jobs::words::crude_at;
+use jobs::words::weight_at;
 ghost use mathlib.Core.Path.{_≡_};
 ghost use Prim.Native.Nat.{_≤_, _<_};
 ghost use lib.IntN.{natAbs, _*ℤ_};
@@ -36,7 +39,7 @@ fn product_term(row: &[i64; 5], n: usize, z: usize, i: usize, o: usize, m: usize
 }
 
 // K'K at (i, i - o).
-fn squares_at(row: &[i64; 5], n: usize, z: usize, i: usize, o: usize) -> i64
+pub fn squares_at(row: &[i64; 5], n: usize, z: usize, i: usize, o: usize) -> i64
     requires { ⌜ (n ≤ 120) × (z ≤ 4) × (i < n) × IsRow z (now row) ⌝ }
     ensures { λ r. ⌜ r ≡ squaresAt n z i o ⌝ }
 {
@@ -50,8 +53,8 @@ fn squares_at(row: &[i64; 5], n: usize, z: usize, i: usize, o: usize) -> i64
 }
 
 // A at (i, i - o).
-fn whole_entry(w: i64, k: i64, squares: i64, o: usize) -> i64
-    requires { ⌜ (natAbs w ≤ 1000) × (natAbs k ≤ 1000) × (natAbs squares ≤ 180) ⌝ }
+pub fn whole_entry(w: i64, k: i64, squares: i64, o: usize) -> i64
+    requires { ⌜ (natAbs w ≤ 181000) × (natAbs k ≤ 1000) × (natAbs squares ≤ 180) ⌝ }
     ensures { λ r. ⌜ r ≡ wholeEntry w k squares o ⌝ }
 {
     if o == 0 {
@@ -61,7 +64,7 @@ fn whole_entry(w: i64, k: i64, squares: i64, o: usize) -> i64
 }
 
 fn entry_at(row: &[i64; 5], w: i64, k: i64, n: usize, z: usize, i: usize, o: usize) -> f64
-    requires { ⌜ (natAbs w ≤ 1000) × (natAbs k ≤ 1000) × (n ≤ 120) × (z ≤ 4) × (i < n) × IsRow z (now row) ⌝ }
+    requires { ⌜ (natAbs w ≤ 181000) × (natAbs k ≤ 1000) × (n ≤ 120) × (z ≤ 4) × (i < n) × IsRow z (now row) ⌝ }
     ensures { λ r. ⌜ r ≡ ofInt binary64 (wholeEntry w k (squaresAt n z i o) o) ⌝ }
 {
     let squares = squares_at(row, n, z, i, o);
@@ -70,8 +73,8 @@ fn entry_at(row: &[i64; 5], w: i64, k: i64, n: usize, z: usize, i: usize, o: usi
 }
 
 // Row i of the band.
-fn entries_of(row: &[i64; 5], w: i64, k: i64, n: usize, z: usize, i: usize) -> [f64; 5]
-    requires { ⌜ (natAbs w ≤ 1000) × (natAbs k ≤ 1000) × (n ≤ 120) × (z ≤ 4) × (i < n) × IsRow z (now row) ⌝ }
+pub fn entries_of(row: &[i64; 5], w: i64, k: i64, n: usize, z: usize, i: usize) -> [f64; 5]
+    requires { ⌜ (natAbs w ≤ 181000) × (natAbs k ≤ 1000) × (n ≤ 120) × (z ≤ 4) × (i < n) × IsRow z (now row) ⌝ }
     ensures { λ r. ⌜ r ≡ entriesOf w k n z i ⌝ }
 {
     let a = entry_at(row, w, k, n, z, i, 0);
@@ -91,9 +94,9 @@ pub fn band(words: &[i64], n: usize, z: usize) -> [[f64; 5]; CELLS]
     let mut made = [[0.0; 5]; CELLS];
     let mut i = 0;
     while i < n {
-        let base = 4 * i;
-        let at = 7 + base;
-        let entries = entries_of(&row, words[at], words[4], n, z, i);
+        let w = weight_at(words, i);
+        let k = constant_of(words);
+        let entries = entries_of(&row, w, k, n, z, i);
         made[i] = entries;
         i += 1;
     }
@@ -115,10 +118,9 @@ pub fn right(words: &[i64], n: usize) -> [f64; CELLS]
     let mut made = [0.0; CELLS];
     let mut i = 0;
     while i < n {
-        let base = 4 * i;
-        let at = 6 + base;
-        let next = 7 + base;
-        made[i] = right_at(words[next], words[at]);
+        let w = weight_at(words, i);
+        let u = crude_at(words, i);
+        made[i] = right_at(w, u);
         i += 1;
     }
     made

@@ -1,29 +1,35 @@
 // The house proposal for a job: solved, rounded out, and written as a proposal pack with every multiplier 0.
 use crate::band::band;
 use crate::band::right;
-use crate::factor::CELLS;
-use crate::factor::Ending;
-use crate::factor::factor_band;
+use crate::factoring::PLACES;
+use crate::factoring::WIDTH;
+use crate::factoring::factor_band;
+use crate::grid::solve_grid;
 use crate::rounding::round_out;
-use crate::solve::solve;
+use factor::CELLS;
+use factor::Ending;
+use factor::solve::solve;
 use fields::Field;
 use jobs::job::JOB_WORDS;
 use jobs::proposal::PROPOSAL_WORDS;
+use jobs::words::ceiling_at;
 use jobs::words::cells_of;
+use jobs::words::columns_of;
+use jobs::words::floor_at;
 use jobs::words::links_of;
 use jobs::words::natural;
 use jobs::words::order_of;
 use packs::Outcome;
 ghost use mathlib.Core.Path.{_≡_};
-ghost use Prim.Native.Nat.{_<_};
+ghost use Prim.Native.Nat.{_≤_, _<_};
 ghost use lib.IntN.{pos};
 ghost use lib.Ieee.{nan};
 ghost use lib.ListN.{length, getD, replicate};
 ghost use lib.Seq.{sets};
-ghost use Rattle.jobs.specs.Words.{jobOf, cellsOf};
+ghost use Rattle.jobs.specs.Words.{jobOf, cellsOf, columnsOf};
 ghost use Rattle.house.specs.Known.{Known};
 ghost use Rattle.house.specs.Filled.{filled};
-ghost use Rattle.house.specs.Proposal.{solvedOf, valueOf, writtenOf, proposedOf, proposeOf};
+ghost use Rattle.house.specs.Proposal.{lineSolved, solvedOf, valueOf, writtenOf, proposedOf, proposeOf};
 
 // How the factoring ends, and the values before rounding; zeros where it is thin.
 pub struct Solved {
@@ -31,15 +37,16 @@ pub struct Solved {
     pub values: [f64; CELLS],
 }
 
-pub fn solve_job(words: &[i64]) -> Solved
+// The same for a job that is no grid.
+fn solve_line(words: &[i64]) -> Solved
     requires { ⌜ Known (now words) ⌝ }
-    ensures { λ r. ⌜ r ≡ solvedOf (jobOf (now (words .entry))) ⌝ }
+    ensures { λ r. ⌜ r ≡ lineSolved (jobOf (now (words .entry))) ⌝ }
 {
     let n = cells_of(words);
     let z = order_of(words);
     let a = band(words, n, z);
     let mut d = [0.0; CELLS];
-    let mut l = [[0.0; 4]; CELLS];
+    let mut l = [0.0; PLACES];
     let ending = factor_band(a, n, z, &mut d, &mut l);
     match ending {
         Ending::Thin(cell, pivot) => {
@@ -51,7 +58,7 @@ pub fn solve_job(words: &[i64]) -> Solved
         }
         Ending::Whole => {
             let b = right(words, n);
-            let values = solve(&d, &l, b, n, z);
+            let values = solve(&d, &l, WIDTH, b, n, z);
             Solved {
                 ending: Ending::Whole,
                 values,
@@ -60,16 +67,24 @@ pub fn solve_job(words: &[i64]) -> Solved
     }
 }
 
+// A job that is no grid has one column.
+fn solve_job(words: &[i64], columns: usize) -> Solved
+    requires { ⌜ Known (now words) × (columns ≡ columnsOf (now words)) × (columns ≤ 12) ⌝ }
+    ensures { λ r. ⌜ r ≡ solvedOf (jobOf (now (words .entry))) ⌝ }
+{
+    if columns == 1 {
+        return solve_line(words);
+    }
+    solve_grid(words)
+}
+
 // v rounded out into the box of the cell i.
 fn value_at(words: &[i64], i: usize, v: f64) -> i64
     requires { ⌜ Known (now words) × (i < cellsOf (now words)) ⌝ }
     ensures { λ r. ⌜ r ≡ valueOf (jobOf (now (words .entry))) i v ⌝ }
 {
-    let base = 4 * i;
-    let at = 8 + base;
-    let next = 9 + base;
-    let lo = natural(words[at]);
-    let hi = natural(words[next]);
+    let lo = natural(floor_at(words, i));
+    let hi = natural(ceiling_at(words, i));
     round_out(v, lo, hi) as i64
 }
 
@@ -104,7 +119,11 @@ pub fn propose_for(words: &[i64], out: &mut [u8]) -> Outcome
     requires { ⌜ Known (now words) ⌝ }
     ensures { λ r. ⌜ (r ≡ proposedOf (length (now (out .entry))) (jobOf (now (words .entry))) .outcome) × (now (out .exit) ≡ sets (now (out .entry)) 0 (proposedOf (length (now (out .entry))) (jobOf (now (words .entry))) .bytes)) ⌝ }
 {
-    let solved = solve_job(words);
+    let columns = columns_of(words);
+    if 12 < columns {
+        return Outcome::Refused(20, 0);
+    }
+    let solved = solve_job(words, columns);
     let ending = solved.ending;
     match ending {
         Ending::Thin(cell, _) => Outcome::Refused(10, cell),
@@ -115,8 +134,8 @@ pub fn propose_for(words: &[i64], out: &mut [u8]) -> Outcome
     }
 }
 
-// The house proposal for a job pack. A refusal writes nothing; room is tested last. A call takes about 30 KB of stack (29,024 bytes compiled at -O3
-// on x86-64), of which the job's words are 16,696.
+// The house proposal for a job pack. A refusal writes nothing; room is tested last. A call takes about 84 KB of stack (84,256 bytes compiled at -O3
+// on aarch64, for a line too), of which a grid's multipliers are 46,080, the job's words 16,736 and the two lists of a grid's band 9,600.
 pub fn propose(job: &[u8], out: &mut [u8]) -> Outcome
     ensures { λ r. ⌜ (r ≡ proposeOf (length (now (out .entry))) (now (job .entry)) .outcome) × (now (out .exit) ≡ sets (now (out .entry)) 0 (proposeOf (length (now (out .entry))) (now (job .entry)) .bytes)) ⌝ }
 {

@@ -1,128 +1,182 @@
--- The cells of a job that was read, one after another: each is allowed, and as many positive weights follow as are still wanted.
+-- The cells of a job that was read, one after another: each is allowed, and as many rows with enough positive weights follow as are still wanted.
 use Prim.Native.Nat.{ℕ, zero, suc, _+_, _-_, _*_, _≤_, _<_}
-use mathlib.Core.Path.{_≡_, refl}
+use mathlib.Core.Path.{_≡_, refl, sym, ap, _∙_}
 use mathlib.Core.Bool.{Bool, true, false}
 use mathlib.Core.List.{List}
+use native.Mathlib.Nat as N
 use native.Mathlib.Numerals.{add-one}
 use native.Mathlib.Omega.{arith}
-use borrow.Author.Tests.{ltb-true, ltb-false}
+use borrow.Author.Tests.{ltb-true, ltb-false, lt-ltb, le-ltb}
 use lib.Dec.{ltb}
 use lib.IntN.{ℤ, pos}
-use lib.Signed.{_≤ℤ_, ltZ}
+use lib.Signed.{_≤ℤ_}
 use Rattle.numbers.specs.Choice.{if_then_else_}
 use Rattle.numbers.proofs.Clash.{clash}
 use Rattle.whole.proofs.Order.{pos-mono}
 use Rattle.fields.specs.declared.cells.Cells.{Cells}
 use Rattle.fields.specs.declared.Field.the-variants.{Crude, Weight, Floor, Ceiling, LinkCount}
 use Rattle.fields.specs.declared.Step.the-variants.{Next, Refused}
-use Rattle.fields.specs.Table.{within, weighed, afterCeiling, stepOf}
+use Rattle.fields.specs.Table.{within, lacking, wanted, weighed, afterCeiling, stepOf}
 use Rattle.fields.proofs.Rows.{within-both}
-use Rattle.jobs.specs.Words.{countAt, jobOf}
-use Rattle.jobs.specs.Allowed.{CellAllowed, positives}
+use Rattle.jobs.specs.Job.{Job}
+use Rattle.jobs.specs.Words.{countAt, cellsOf, headWords, columnsOf, acrossOf, jobOf}
+use Rattle.jobs.specs.Allowed.{CellAllowed, positives, rowsHeld}
 use Rattle.jobs.proofs.Taken.{At, at-place, at-field, Row, row, next-is, plain, here-on}
-
-abbrev cellAt : (n want cell : ℕ) → Cells
-cellAt n want cell = record { n = n; want = want; cell = cell }
-
--- after a ceiling: the next cell, or the links, where no more positive weights are wanted
-data After (ws : List ℤ) (n want cell p : ℕ) : Type 0 where
-  another : cell + 1 < n → At ws (Crude (cellAt n want (cell + 1))) p → After ws n want cell p
-  last : n ≤ cell + 1 → want ≤ 0 → At ws (LinkCount n) p → After ws n want cell p
-
--- what a ceiling that lets the walk go on tells
-record High (ws : List ℤ) (n want cell lo p : ℕ) : Type 0 where
-  pub box : lo ≤ countAt ws p
-  pub after : After ws n want cell (p + 1)
-
-high : {ws : List ℤ} {p : ℕ} {test : ℕ → Bool} (n want cell lo : ℕ) → Row ws p test (afterCeiling (cellAt n want cell) lo) → High ws n want cell lo p
-high {ws} {p} n want cell lo r = go (ltb hi lo) (ltb (cell + 1) n) (ltb 0 want) refl refl refl (r .next)
-  where
-    hi : ℕ
-    hi = countAt ws p
-
-    go : (a b d : Bool) → ltb hi lo ≡ a → ltb (cell + 1) n ≡ b → ltb 0 want ≡ d
-        → (if a then Refused 3 cell else if b then Next (Crude (cellAt n want (cell + 1))) else if d then Refused 4 0 else Next (LinkCount n))
-        ≡ Next (r .g) → High ws n want cell lo p
-    go true b d l m w e = clash (cc)
-    go false true d l m w e =
-        record { box = ltb-false hi lo l; after = another (ltb-true (cell + 1) n m) (at-field (next-is e) (r .rest)) }
-    go false false true l m w e = clash (cc)
-    go false false false l m w e =
-        record { box = ltb-false hi lo l; after = last (ltb-false (cell + 1) n m) (ltb-false 0 want w) (at-field (next-is e) (r .rest)) }
-
--- what a cell's weight counts
-abbrev counts : ℤ → ℕ
-counts w = if ltZ (pos 0) w then 1 else 0
-
--- a weight lowers what is wanted by no more than it counts
-fewer-wanted : (want x : ℕ) → want ≤ (if ltb 0 x then 1 else 0) + (if ltb 0 x then want - 1 else want)
-fewer-wanted want x = go (ltb 0 x)
-  where
-    go : (t : Bool) → want ≤ (if t then 1 else 0) + (if t then want - 1 else want)
-    go true = omega arith
-    go false = omega arith
-
--- a cell that was read, and how many positive weights are still wanted after it
-record OneCell (ws : List ℤ) (n want cell : ℕ) : Type 0 where
-  pub allowed : CellAllowed (jobOf ws) cell
-  pub left : ℕ
-  pub wanted : want ≤ counts (jobOf ws .weight cell) + left
-  pub after : After ws n left cell (9 + 4 * cell + 1)
+use Rattle.jobs.proofs.Weights.{full, lacks-less, row-held}
 
 box-of : {a b : ℤ} {x y : ℕ} → a ≡ pos x → b ≡ pos y → x ≤ y → a ≤ℤ b
 box-of e q h = rw (e, q) (pos-mono h)
 
-one-cell : (ws : List ℤ) (n want i : ℕ) → At ws (Crude (cellAt n want i)) (6 + 4 * i) → OneCell ws n want i
-unfolding stepOf
-one-cell ws n want i t =
-    let c = cellAt n want i in
-    let u = plain 0 1000000 (λ x. Weight c) refl refl (λ x. refl) t in
-    let w = plain 0 1000 (λ x. Floor (weighed c x)) refl refl (λ x. refl) (at-place (7 + 4 * i) (omega arith) (u .rest)) in
-    let d = weighed c (countAt ws (7 + 4 * i)) in
-    let l = plain 0 1000000 (λ x. Ceiling d x) refl refl (λ x. refl) (at-place (8 + 4 * i) (omega arith) (w .rest)) in
-    let lo = countAt ws (8 + 4 * i) in
-    let h = row (within 0 1000000) (afterCeiling d lo) refl refl (λ x. refl) (at-place (9 + 4 * i) (omega arith) (l .rest)) in
-    let k = high n (d .want) i lo h in
-    record {
-      allowed = record {
-        crude = u .range;
-        weight = w .range;
-        floor = l .range;
-        ceiling = record { natural = h .counted; small = within-both 0 1000000 (countAt ws (9 + 4 * i)) (h .ok) .1 };
-        box = box-of (l .range .natural) (h .counted) (k .box);
-      };
-      left = d .want;
-      wanted = rw (w .range .natural) (fewer-wanted want (countAt ws (7 + 4 * i)));
-      after = k .after;
-    }
+module _ (ws : List ℤ) where
+  abbrev n : ℕ
+  n = cellsOf ws
 
--- the k cells from the cell i on, up to the last
-pub record AllCells (ws : List ℤ) (n want i k : ℕ) : Type 0 where
-  pub each : (j : ℕ) → i ≤ j → j < n → CellAllowed (jobOf ws) j
-  pub weights : want ≤ positives (jobOf ws) i k
-  pub rest : At ws (LinkCount n) (6 + 4 * n)
+  abbrev H : ℕ
+  H = headWords ws
 
--- one cell, where those after it are known
-from-cell : (ws : List ℤ) (n want i k : ℕ) → i + suc k ≡ n → OneCell ws n want i
-    → ((left : ℕ) → i + 1 < n → At ws (Crude (cellAt n left (i + 1))) (6 + 4 * (i + 1)) → AllCells ws n left (i + 1) k) → AllCells ws n want i (suc k)
-unfolding positives
-from-cell ws n want i k e o later = go (o .after)
-  where
-    go : After ws n (o .left) i (9 + 4 * i + 1) → AllCells ws n want i (suc k)
-    go (another h t) =
-        let r = later (o .left) h (at-place (6 + 4 * (i + 1)) (omega arith) t) in
-        record {
-          each = here-on (o .allowed) (r .each);
-          weights = rw (← add-one i) (omega (arith, o .wanted, r .weights));
-          rest = r .rest;
-        }
-    go (last h w t) = record {
-      each = here-on (o .allowed) (λ j a b. absurd (omega arith));
-      weights = omega (arith, o .wanted);
-      rest = at-place (6 + 4 * n) (omega arith) t;
-    }
+  abbrev J : Job
+  J = jobOf ws
 
-pub all-cells : (ws : List ℤ) (n want i k : ℕ) → i + k ≡ n → 1 ≤ k → At ws (Crude (cellAt n want i)) (6 + 4 * i) → AllCells ws n want i k
-all-cells ws n want i zero e h t = absurd (omega arith)
-all-cells ws n want i (suc k) e h t =
-    from-cell ws n want i k e (one-cell ws n want i t) (λ left l r. all-cells ws n left (i + 1) k (omega arith) (omega arith) r)
+  abbrev cellAt : (want lack column cell : ℕ) → Cells
+  cellAt want lack column cell =
+      record { n = n; columns = columnsOf ws; across = acrossOf ws; want = want; lack = lack; column = column; cell = cell }
+
+  -- after a ceiling: the next cell, or the links, where no more rows are wanted
+  data After (want lack column cell p : ℕ) : Type 0 where
+    another : cell + 1 < n → At ws (Crude (cellAt want lack column (cell + 1))) p → After want lack column cell p
+    last : n ≤ cell + 1 → want ≤ 0 → At ws (LinkCount n) p → After want lack column cell p
+
+  -- what a ceiling that lets the walk go on tells
+  record High (want lack column cell lo p : ℕ) : Type 0 where
+    pub box : lo ≤ countAt ws p
+    pub after : After want lack column cell (p + 1)
+
+  high : {p : ℕ} {test : ℕ → Bool} (want lack column cell lo : ℕ) → Row ws p test (afterCeiling (cellAt want lack column cell) lo)
+      → High want lack column cell lo p
+  high {p} want lack column cell lo r = go (ltb hi lo) (ltb (cell + 1) n) (ltb 0 want) refl refl refl (r .next)
+    where
+      hi : ℕ
+      hi = countAt ws p
+
+      go : (a b d : Bool) → ltb hi lo ≡ a → ltb (cell + 1) n ≡ b → ltb 0 want ≡ d
+          → (if a then Refused 3 cell else if b then Next (Crude (cellAt want lack column (cell + 1))) else if d then Refused 4 0 else Next (LinkCount n))
+          ≡ Next (r .g) → High want lack column cell lo p
+      go true b d l m w e = clash (cc)
+      go false true d l m w e =
+          record { box = ltb-false hi lo l; after = another (ltb-true (cell + 1) n m) (at-field (next-is e) (r .rest)) }
+      go false false true l m w e = clash (cc)
+      go false false false l m w e =
+          record { box = ltb-false hi lo l; after = last (ltb-false (cell + 1) n m) (ltb-false 0 want w) (at-field (next-is e) (r .rest)) }
+
+  -- a cell that was read, and what is still wanted after it
+  record OneCell (want lack column cell : ℕ) : Type 0 where
+    pub allowed : CellAllowed J cell
+    pub after : After want lack column cell (H + 4 * (cell + 1))
+
+  after-at : {want lack column cell p q : ℕ} → p ≡ q → After want lack column cell p → After want lack column cell q
+  after-at e (another h t) = another h (at-place _ e t)
+  after-at e (last h w t) = last h w (at-place _ e t)
+
+  -- the weight of the cell i
+  abbrev weightOf : ℕ → ℕ
+  weightOf i = countAt ws (H + 1 + 4 * i)
+
+  one-cell : (c : Cells) (want lack column i : ℕ) → weighed c (weightOf i) ≡ cellAt want lack column i → At ws (Crude c) (H + 4 * i)
+      → OneCell want lack column i
+  unfolding stepOf
+  one-cell c want lack column i e t =
+      let u = plain 0 1000000 (λ x. Weight c) refl refl (λ x. refl) t in
+      let w = plain 0 1000 (λ x. Floor (weighed c x)) refl refl (λ x. refl) (at-place (H + 1 + 4 * i) (omega arith) (u .rest)) in
+      let d = cellAt want lack column i in
+      let f = at-field (ap Floor e) (w .rest) in
+      let l = plain 0 1000000 (λ x. Ceiling d x) refl refl (λ x. refl) (at-place (H + 2 + 4 * i) (omega arith) f) in
+      let lo = countAt ws (H + 2 + 4 * i) in
+      let h = row (within 0 1000000) (afterCeiling d lo) refl refl (λ x. refl) (at-place (H + 3 + 4 * i) (omega arith) (l .rest)) in
+      let k = high want lack column i lo h in
+      record {
+        allowed = record {
+          crude = u .range;
+          weight = w .range;
+          floor = l .range;
+          ceiling = record { natural = h .counted; small = within-both 0 1000000 (countAt ws (H + 3 + 4 * i)) (h .ok) .1 };
+          box = box-of (l .range .natural) (h .counted) (k .box);
+        };
+        after = after-at (omega arith) (k .after);
+      }
+
+  -- the cells from the cell i on: k of its row, then r rows
+  pub record AllCells (want lack i k r : ℕ) : Type 0 where
+    pub each : (j : ℕ) → i ≤ j → j < n → CellAllowed J j
+    pub weights : want ≤ full lack (positives J i k) + rowsHeld J (i + k) r
+    pub rest : At ws (LinkCount n) (H + 4 * n)
+
+  -- what a weight counts of its row
+  counted : (lack i k : ℕ) → CellAllowed J i → full (lacking lack (weightOf i)) (positives J (i + 1) k) ≡ full lack (positives J i (suc k))
+  unfolding positives
+  counted lack i k a = rw (a .weight .natural, add-one i) (lacks-less lack (weightOf i) (positives J (suc i) k))
+
+  ended : (lack i : ℕ) → CellAllowed J i → full (lacking lack (weightOf i)) 0 ≡ full lack (positives J i 1)
+  unfolding positives
+  ended lack i a = counted lack i 0 a
+
+  -- one cell, where those of its row after it are known
+  in-row : (want lack column i k r : ℕ) → i + 1 < n → OneCell want (lacking lack (weightOf i)) (column + 1) i
+      → (At ws (Crude (cellAt want (lacking lack (weightOf i)) (column + 1) (i + 1))) (H + 4 * (i + 1)) → AllCells want (lacking lack (weightOf i)) (i + 1) (suc k) r)
+      → AllCells want lack i (suc (suc k)) r
+  in-row want lack column i k r more o later = go (o .after)
+    where
+      go : After want (lacking lack (weightOf i)) (column + 1) i (H + 4 * (i + 1)) → AllCells want lack i (suc (suc k)) r
+      go (another h t) =
+          let l = later t in
+          let e : i + suc (suc k) ≡ i + 1 + suc k = omega arith in
+          record { each = here-on (o .allowed) (l .each); weights = rw (← counted lack i (suc k) (o .allowed), e) (l .weights); rest = l .rest }
+      go (last h w t) = absurd (omega arith)
+
+  -- the last cell of a row, where the rows after it are known
+  row-end : (want lack i r : ℕ) → i + 1 < n → OneCell (wanted want (lacking lack (weightOf i))) (acrossOf ws) 0 i
+      → (At ws (Crude (cellAt (wanted want (lacking lack (weightOf i))) (acrossOf ws) 0 (i + 1))) (H + 4 * (i + 1))
+      → AllCells (wanted want (lacking lack (weightOf i))) (acrossOf ws) (i + 1) (columnsOf ws) r)
+      → AllCells want lack i 1 (suc r)
+  unfolding rowsHeld
+  row-end want lack i r more o later = go (o .after)
+    where
+      go : After (wanted want (lacking lack (weightOf i))) (acrossOf ws) 0 i (H + 4 * (i + 1)) → AllCells want lack i 1 (suc r)
+      go (another h t) =
+          let l = later t in
+          record {
+            each = here-on (o .allowed) (l .each);
+            weights = rw (← ended lack i (o .allowed)) (row-held want (lacking lack (weightOf i)) (rowsHeld J (i + 1) (suc r)) (l .weights));
+            rest = l .rest;
+          }
+      go (last h w t) = absurd (omega arith)
+
+  -- the last cell
+  the-end : (want lack i : ℕ) → i + 1 ≡ n → OneCell (wanted want (lacking lack (weightOf i))) (acrossOf ws) 0 i → AllCells want lack i 1 0
+  unfolding rowsHeld
+  the-end want lack i e o = go (o .after)
+    where
+      go : After (wanted want (lacking lack (weightOf i))) (acrossOf ws) 0 i (H + 4 * (i + 1)) → AllCells want lack i 1 0
+      go (another h t) = absurd (omega arith)
+      go (last h w t) = record {
+        each = here-on (o .allowed) (λ j a b. absurd (omega arith));
+        weights = rw (← ended lack i (o .allowed)) (row-held want (lacking lack (weightOf i)) 0 w);
+        rest = at-place (H + 4 * n) (omega arith) t;
+      }
+
+  pub all-cells : (m want lack column i k r : ℕ) → i + m ≡ n → column + k ≡ columnsOf ws → 1 ≤ k → m ≡ k + r * columnsOf ws
+      → At ws (Crude (cellAt want lack column i)) (H + 4 * i) → AllCells want lack i k r
+  all-cells zero want lack column i k r e c h q t = absurd (omega (arith, q))
+  all-cells (suc m) want lack column i zero r e c h q t = absurd (omega arith)
+  all-cells (suc m) want lack column i (suc zero) zero e c h q t =
+      let z = N.zero-mul (columnsOf ws) in
+      the-end want lack i (omega (arith, q, z))
+      (one-cell (cellAt want lack column i) (wanted want (lacking lack (weightOf i))) (acrossOf ws) 0 i (rw (le-ltb (column + 1) (columnsOf ws) (omega arith))) t)
+  all-cells (suc m) want lack column i (suc zero) (suc r) e c h q t =
+      let z = N.suc-mul r (columnsOf ws) in
+      row-end want lack i r (omega (arith, q, z))
+      (one-cell (cellAt want lack column i) (wanted want (lacking lack (weightOf i))) (acrossOf ws) 0 i (rw (le-ltb (column + 1) (columnsOf ws) (omega arith))) t)
+      (all-cells m (wanted want (lacking lack (weightOf i))) (acrossOf ws) 0 (i + 1) (columnsOf ws) r (omega arith) (omega arith) (omega arith) (omega (arith, q, z)))
+  all-cells (suc m) want lack column i (suc (suc k)) r e c h q t =
+      in-row want lack column i k r (omega (arith, q))
+      (one-cell (cellAt want lack column i) want (lacking lack (weightOf i)) (column + 1) i (rw (lt-ltb (column + 1) (columnsOf ws) (omega arith))) t)
+      (all-cells m want (lacking lack (weightOf i)) (column + 1) (i + 1) (suc k) r (omega arith) (omega arith) (omega arith) (omega (arith, q)))

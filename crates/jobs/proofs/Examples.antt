@@ -1,4 +1,4 @@
--- Document 01's examples of packs, computed by the definitions.
+-- Document 01's examples of packs and those of grids, computed by the definitions.
 use mathlib.Core.Path.{refl}
 use Rattle.numbers.specs.Plain.{numberIn, bytesIn}
 use Rattle.fields.specs.Table.{stepOf}
@@ -24,4 +24,10 @@ examples = record {
   proposal = refl;
   order-kept = refl;
   order-written = refl;
+  grid = refl;
+  grid-written = refl;
+  constants = refl;
+  weights = refl;
+  seven-rows = refl;
+  one-row = refl;
 }

@@ -1,8 +1,10 @@
 -- The laws behind the functions of this crate and its promises. Each file says what it is for.
 pub mod Steps
 pub mod Places
+pub mod Shapes
 pub mod Counts
 pub mod Taken
+pub mod Weights
 pub mod Cells
 pub mod Terms
 pub mod Links

@@ -1,4 +1,4 @@
--- How large the places of the two packs can be: a job has at most 2,087 numbers, a proposal for one at most 280.
+-- How large the places of the two packs can be: a job has at most 2,092 numbers, a proposal for one at most 280.
 use Prim.Native.Nat.{ℕ, _*_, _≤_}
 use mathlib.Core.Path.{refl}
 use mathlib.Core.List.{List}
@@ -15,10 +15,10 @@ use Rattle.packs.specs.Writing.{writeFrom}
 use Rattle.packs.proofs.Near.{Near, read-near, write-near}
 use Rattle.jobs.specs.Packs.{readJob, writeJob}
 
-pub job-read-near : (s : List ℕ) → Near 20870 (readJob s .outcome)
+pub job-read-near : (s : List ℕ) → Near 20920 (readJob s .outcome)
 job-read-near s = read-near Society refl s
 
-pub job-written-near : (ws : List ℤ) → Near 20870 (writeJob ws .outcome)
+pub job-written-near : (ws : List ℤ) → Near 20920 (writeJob ws .outcome)
 job-written-near ws = write-near Society refl ws
 
 near-more : {a b : ℕ} (o : Outcome) → a ≤ b → Near a o → Near b o

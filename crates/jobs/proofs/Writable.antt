@@ -3,9 +3,10 @@ use Prim.Native.Nat.{ℕ, zero, suc, _+_, _-_, _*_, _≤_, _<_}
 use mathlib.Core.Path.{_≡_, refl, sym, ap, subst, _∙_}
 use mathlib.Core.Bool.{Bool, true, false}
 use mathlib.Core.List.{List, []}
+use native.Mathlib.Nat as N
 use native.Mathlib.Numerals.{add-one}
 use native.Mathlib.Omega.{arith}
-use borrow.Author.Tests.{lt-ltb, le-ltb, le-leb, ne-eqb, eqb-true}
+use borrow.Author.Tests.{lt-ltb, le-ltb, le-leb, eq-eqb, ne-eqb, eqb-true}
 use lib.Dec.{ltb, eqb}
 use lib.IntN.{ℤ, pos, negsuc, natAbs}
 use lib.ListN.{length, drop, drop-of-length-le}
@@ -16,15 +17,18 @@ use Rattle.numbers.specs.Zigzag.{storedOf}
 use Rattle.fields.specs.declared.cells.Cells.{Cells}
 use Rattle.fields.specs.declared.links.Links.{Links}
 use Rattle.fields.specs.declared.Field.{Field}
-use Rattle.fields.specs.declared.Field.the-variants.{Society, Job, Count, Order, Constant, Tolerance, Crude, Weight, Floor, Ceiling, LinkCount, TermCount, Cell, Coefficient, Bound}
-use Rattle.fields.specs.declared.Step.the-variants.{Next}
-use Rattle.fields.specs.Table.{within, orderUsed, afterCeiling, linksFrom, signedAt, endAt, stepOf}
+use Rattle.fields.specs.declared.Field.the-variants.{Society, Job, Count, Order, Rows, Columns, OrderDown, OrderAcross, SecondConstant, Constant, Tolerance, Crude, Weight, Floor, Ceiling, LinkCount, TermCount, Cell, Coefficient, Bound}
+use Rattle.fields.specs.declared.Step.the-variants.{Next, Refused}
+use Rattle.fields.specs.Table.{within, orderUsed, lineOf, gridOf, withDown, withAcross, lacking, wanted, weighed, linksFrom, signedAt, endAt, stepOf}
 use Rattle.whole.proofs.Order.{pos-le}
 use Rattle.packs.specs.declared.Outcome.the-variants.{Done}
 use Rattle.packs.specs.declared.words.Raw.the-variants.{Number}
 use Rattle.packs.specs.Writing.{rawOf, writeFrom}
-use Rattle.jobs.specs.Words.{wordAt, countAt, cellsOf, linksOf, startOf, jobOf}
-use Rattle.jobs.specs.Allowed.{Allowed, TermAllowed, positives, Laid}
+use Rattle.jobs.specs.Words.{wordAt, countAt, cellsOf, isGrid, headWords, rowsOf, columnsOf, orderOf, acrossOf, secondOf, linksOf, startOf, jobOf}
+use Rattle.jobs.specs.Allowed.{Allowed, GridAllowed, ShapeAllowed, TermAllowed, positives, rowsHeld, Laid}
+use Rattle.jobs.proofs.Places.{head-of-grid, head-of-line, head-some, columns-some}
+use Rattle.jobs.proofs.Shapes.{shapeAt, rows-line, order-line, second-line, shape-line, rows-grid, columns-grid, order-grid, across-grid, second-grid, shape-grid}
+use Rattle.jobs.proofs.Weights.{full, lacks-less, held-row}
 use Rattle.jobs.specs.Packs.{writeJob}
 
 pub within-most : (least most x : ℕ) → least ≤ x → x ≤ most → within least most x ≡ true
@@ -69,19 +73,19 @@ stored-some (negsuc n) h = omega arith
 
 -- ---- a job
 
-order-field : (x : ℕ) → orderUsed x ≤ 4 → x ≤ 4
+order-field : (x : ℕ) → orderUsed x ≤ 4 → x ≤ 5
 order-field x h = go (eqb x 0) refl h
   where
-    go : (t : Bool) → eqb x 0 ≡ t → (if t then 2 else x) ≤ 4 → x ≤ 4
+    go : (t : Bool) → eqb x 0 ≡ t → (if t then 2 else x) ≤ 4 → x ≤ 5
     go true e h = omega (arith, eqb-true x 0 e)
-    go false e h = h
+    go false e h = omega arith
 
 module _ (ws : List ℤ) (L : Laid ws) (A : Allowed (jobOf ws)) where
   abbrev n : ℕ
   n = cellsOf ws
 
-  abbrev z : ℕ
-  z = orderUsed (countAt ws 3)
+  abbrev H : ℕ
+  H = headWords ws
 
   abbrev links : ℕ
   links = linksOf ws
@@ -95,7 +99,7 @@ module _ (ws : List ℤ) (L : Laid ws) (A : Allowed (jobOf ws)) where
   rises zero = omega arith
   rises (suc j) = omega (arith, rises j)
 
-  start-first : startOf ws 0 ≡ 7 + 4 * n
+  start-first : startOf ws 0 ≡ H + 1 + 4 * n
   unfolding startOf
   start-first = omega arith
 
@@ -110,71 +114,146 @@ module _ (ws : List ℤ) (L : Laid ws) (A : Allowed (jobOf ws)) where
   before-end : (j : ℕ) → j ≤ links → startOf ws j ≤ length ws
   before-end j h = let e : j + (links - j) ≡ links = omega arith in omega (arith, grows j (links - j), ap (startOf ws) e, L .ends)
 
-  head : 7 + 4 * n ≤ length ws
+  head : H + 1 + 4 * n ≤ length ws
   head = omega (arith, before-end 0 (omega arith), start-first)
 
-  -- the numbers before the cells
-  first-cell : At 6 (Crude (record { n = n; want = z; cell = 0 }))
+  -- the numbers before k: up to the order field, then a grid's own
+  at-order : At 3 (Order n)
   unfolding stepOf
-  first-cell =
+  at-order =
       let room = head in
+      let some = head-some ws in
       let start : At 0 Society = record { at = 0; ends = refl } in
       let a : At 1 Job = plain start (omega arith) refl refl (L .society) (rw (within-most 0 7 (countAt ws 0) (omega arith) (A .society))) in
       let b : At 2 Count = plain a (omega arith) refl refl (L .number) (rw (within-most 0 4294967295 (countAt ws 1) (omega arith) (A .number))) in
-      let c : At 3 (Order n) = plain b (omega arith) refl refl (L .cells) (rw (within-most 2 120 (countAt ws 2) (A .cells-some) (A .cells-few))) in
-      let d : At 4 (Constant n z) =
-      plain c (omega arith) refl refl (L .order) (rw (within-most 0 4 (countAt ws 3) (omega arith) (order-field (countAt ws 3) (A .order-few)), lt-ltb z n (A .order-less))) in
-      let e : At 5 (Tolerance n z) = plain d (omega arith) refl refl (A .constant .natural) (rw (within-most 1 1000 (countAt ws 4) (A .constant-some) (A .constant .small))) in
-      plain e (omega arith) refl refl (A .tolerance .natural) (rw (within-most 0 1000000000000000 (countAt ws 5) (omega arith) (A .tolerance .small)))
+      plain b (omega arith) refl refl (L .cells) (rw (within-most 2 120 (countAt ws 2) (A .cells-some) (A .cells-few)))
+
+  constant-of-line : isGrid ws ≡ false → At (H - 2) (Constant (shapeAt ws) (natAbs (secondOf ws)))
+  unfolding stepOf
+  constant-of-line l =
+      let room = head in
+      let six = head-of-line ws l in
+      let z = orderUsed (countAt ws 3) in
+      let less : z < n = omega (arith, A .order-less, order-line ws l, rows-line ws l) in
+      let few = order-field (countAt ws 3) (omega (arith, A .order-few, order-line ws l)) in
+      let d : At 4 (Constant (lineOf n z) 0) =
+      plain at-order (omega arith) refl refl (L .order) (rw (within-most 0 5 (countAt ws 3) (omega arith) few, l, lt-ltb z n less)) in
+      stands-as (λ i. Constant (shape-line ws l i) (natAbs (sym (second-line ws l) i))) (stands-at (omega arith) d)
+
+  constant-of-grid : isGrid ws ≡ true → At (H - 2) (Constant (shapeAt ws) (natAbs (secondOf ws)))
+  unfolding stepOf
+  constant-of-grid g =
+      let room = head in
+      let eleven = head-of-grid ws g in
+      let G : GridAllowed (jobOf ws) = subst (ShapeAllowed (jobOf ws)) g (A .shape) in
+      let K = L .grid g in
+      let R = countAt ws 4 in
+      let C = countAt ws 5 in
+      let D = countAt ws 6 in
+      let X = countAt ws 7 in
+      let second : wordAt ws 8 ≡ pos (countAt ws 8) = rw (second-grid ws g) at (A .second .natural) in
+      let second-small : countAt ws 8 ≤ 999 = rw (second-grid ws g) at (A .second .small) in
+      let second-some : 1 ≤ countAt ws 8 = rw (second-grid ws g) at (G .second-some) in
+      let product : R * C ≡ n = rw (rows-grid ws g, columns-grid ws g) at (A .cells-are) in
+      let five : countAt ws 3 ≤ 5 = omega (arith, eqb-true (countAt ws 3) 5 g) in
+      let a : At 4 (Rows n) = plain at-order (omega arith) refl refl (L .order) (rw (within-most 0 5 (countAt ws 3) (omega arith) five, g)) in
+      let b : At 5 (Columns n R) = plain a (omega arith) refl refl (K .rows) (rw (le-leb 2 R (omega (arith, G .rows-some, rows-grid ws g)))) in
+      let c : At 6 (OrderDown (gridOf n R C)) =
+      plain b (omega arith) refl refl (K .columns) (rw (le-leb 2 C (omega (arith, G .columns-some, columns-grid ws g)), eq-eqb (R * C) n product)) in
+      let d : At 7 (OrderAcross (withDown (gridOf n R C) D)) =
+      plain c (omega arith) refl refl (K .down)
+      (rw (within-most 1 4 D (omega (arith, A .order-some, order-grid ws g)) (omega (arith, A .order-few, order-grid ws g)), lt-ltb D R (omega (arith, A .order-less, order-grid ws g, rows-grid ws g)))) in
+      let e : At 8 (SecondConstant (withAcross (withDown (gridOf n R C) D) X)) =
+      plain d (omega arith) refl refl (K .across)
+      (rw (within-most 1 4 X (omega (arith, A .across-some, across-grid ws g)) (omega (arith, A .across-few, across-grid ws g)), lt-ltb X C (omega (arith, G .across-less, across-grid ws g, columns-grid ws g)))) in
+      let f : At 9 (Constant (withAcross (withDown (gridOf n R C) D) X) (countAt ws 8)) =
+      plain e (omega arith) refl refl second (rw (within-most 1 999 (countAt ws 8) second-some second-small)) in
+      stands-as (λ i. Constant (shape-grid ws g i) (natAbs (sym (second-grid ws g) i))) (stands-at (omega arith) f)
+
+  at-constant : (t : Bool) → isGrid ws ≡ t → At (H - 2) (Constant (shapeAt ws) (natAbs (secondOf ws)))
+  at-constant true e = constant-of-grid e
+  at-constant false e = constant-of-line e
 
   -- one cell
-  abbrev cellAt : (want i : ℕ) → Cells
-  cellAt want i = record { n = n; want = want; cell = i }
+  abbrev cellAt : (want lack column i : ℕ) → Cells
+  cellAt want lack column i =
+      record { n = n; columns = columnsOf ws; across = acrossOf ws; want = want; lack = lack; column = column; cell = i }
 
-  abbrev wantedAfter : (want i : ℕ) → ℕ
-  wantedAfter want i = if ltb 0 (countAt ws (7 + 4 * i)) then want - 1 else want
-
-  cell-on : (want i : ℕ) → i < n → At (6 + 4 * i) (Crude (cellAt want i)) → (g : Field)
-      → afterCeiling (cellAt (wantedAfter want i) i) (countAt ws (8 + 4 * i)) (countAt ws (9 + 4 * i)) ≡ Next g → At (6 + 4 * (i + 1)) g
+  first-cell : At (H + 4 * 0) (Crude (cellAt (orderOf ws) (acrossOf ws) 0 0))
   unfolding stepOf
-  cell-on want i h w g s =
+  first-cell =
       let room = head in
-      let C = A .cell i h in
-      let a : At (7 + 4 * i) (Weight (cellAt want i)) =
-      stands-at (omega arith) (plain w (omega arith) refl refl (C .crude .natural) (rw (within-most 0 1000000 (countAt ws (6 + 4 * i)) (omega arith) (C .crude .small)))) in
-      let b : At (8 + 4 * i) (Floor (cellAt (wantedAfter want i) i)) =
-      stands-at (omega arith) (plain a (omega arith) refl refl (C .weight .natural) (rw (within-most 0 1000 (countAt ws (7 + 4 * i)) (omega arith) (C .weight .small)))) in
-      let d : At (9 + 4 * i) (Ceiling (cellAt (wantedAfter want i) i) (countAt ws (8 + 4 * i))) =
-      stands-at (omega arith) (plain b (omega arith) refl refl (C .floor .natural) (rw (within-most 0 1000000 (countAt ws (8 + 4 * i)) (omega arith) (C .floor .small)))) in
-      stands-at (omega arith) (plain d (omega arith) refl refl (C .ceiling .natural) (rw (within-most 0 1000000 (countAt ws (9 + 4 * i)) (omega arith) (C .ceiling .small)) s))
+      let some = head-some ws in
+      let s = natAbs (secondOf ws) in
+      let e : At (H - 1) (Tolerance (shapeAt ws)) =
+      stands-at (omega arith)
+      (plain (at-constant (isGrid ws) refl) (omega arith) refl refl (A .constant .natural) (rw (within-most 1 (1000 - s) (natAbs (jobOf ws .constant)) (A .constant-some) (omega (arith, A .constants))))) in
+      stands-at (omega arith)
+      (plain e (omega arith) refl refl (A .tolerance .natural) (rw (within-most 0 1000000000000000 (natAbs (jobOf ws .tolerance)) (omega arith) (A .tolerance .small))))
 
-  box-order : (i : ℕ) → i < n → countAt ws (8 + 4 * i) ≤ countAt ws (9 + 4 * i)
+  abbrev weightOf : ℕ → ℕ
+  weightOf i = countAt ws (H + 1 + 4 * i)
+
+  box-order : (i : ℕ) → i < n → countAt ws (H + 2 + 4 * i) ≤ countAt ws (H + 3 + 4 * i)
   box-order i h = let C = A .cell i h in pos-le (rw (C .floor .natural, C .ceiling .natural) at (C .box))
 
-  -- a positive weight lowers what is wanted by what it counts
-  fewer : (want x p : ℕ) → want ≤ (if ltb 0 x then 1 else 0) + p → (if ltb 0 x then want - 1 else want) ≤ p
-  fewer want x p h = go (ltb 0 x) h
-    where
-      go : (t : Bool) → want ≤ (if t then 1 else 0) + p → (if t then want - 1 else want) ≤ p
-      go true h = omega arith
-      go false h = omega arith
-
-  wanted-on : (want i k : ℕ) → i < n → want ≤ positives (jobOf ws) i (suc k) → wantedAfter want i ≤ positives (jobOf ws) (suc i) k
-  unfolding positives
-  wanted-on want i k h l = fewer want (countAt ws (7 + 4 * i)) (positives (jobOf ws) (suc i) k) (rw (A .cell i h .weight .natural) at l)
-
-  cells-on : (k want i : ℕ) → i + suc k ≡ n → want ≤ positives (jobOf ws) i (suc k) → At (6 + 4 * i) (Crude (cellAt want i)) → At (6 + 4 * n) (LinkCount n)
-  unfolding positives
-  cells-on zero want i e l w =
-      let h : i < n = omega arith in
-      let none : wantedAfter want i ≤ 0 = wanted-on want i 0 h l in
+  -- the cell i, after whose weight d is wanted
+  cell-on : (c : Cells) (want lack column i : ℕ) → i < n → weighed c (weightOf i) ≡ cellAt want lack column i → At (H + 4 * i) (Crude c) → (g : Field)
+      → (if ltb (i + 1) n then Next (Crude (cellAt want lack column (i + 1))) else if ltb 0 want then Refused 4 0 else Next (LinkCount n)) ≡ Next g
+      → At (H + 4 * (i + 1)) g
+  unfolding stepOf
+  cell-on c want lack column i h q w g s =
+      let room = head in
+      let C = A .cell i h in
+      let lo = countAt ws (H + 2 + 4 * i) in
+      let hi = countAt ws (H + 3 + 4 * i) in
+      let a : At (H + 1 + 4 * i) (Weight c) =
+      stands-at (omega arith) (plain w (omega arith) refl refl (C .crude .natural) (rw (within-most 0 1000000 (countAt ws (H + 4 * i)) (omega arith) (C .crude .small)))) in
+      let b : At (H + 2 + 4 * i) (Floor (cellAt want lack column i)) =
+      stands-at (omega arith) (stands-as (ap Floor q) (plain a (omega arith) refl refl (C .weight .natural) (rw (within-most 0 1000 (weightOf i) (omega arith) (C .weight .small))))) in
+      let d : At (H + 3 + 4 * i) (Ceiling (cellAt want lack column i) lo) =
+      stands-at (omega arith) (plain b (omega arith) refl refl (C .floor .natural) (rw (within-most 0 1000000 lo (omega arith) (C .floor .small)))) in
       stands-at (omega arith)
-      (cell-on want i h w (LinkCount n) (rw (le-ltb (countAt ws (9 + 4 * i)) (countAt ws (8 + 4 * i)) (box-order i h), le-ltb (i + 1) n (omega arith), le-ltb 0 (wantedAfter want i) none)))
-  cells-on (suc k) want i e l w =
-      let h : i < n = omega arith in
-      cells-on k (wantedAfter want i) (i + 1) (omega arith) (rw (add-one i) (wanted-on want i (suc k) h l))
-      (cell-on want i h w (Crude (cellAt (wantedAfter want i) (i + 1)))
-      (rw (le-ltb (countAt ws (9 + 4 * i)) (countAt ws (8 + 4 * i)) (box-order i h), lt-ltb (i + 1) n (omega arith))))
+      (plain d (omega arith) refl refl (C .ceiling .natural) (rw (within-most 0 1000000 hi (omega arith) (C .ceiling .small), le-ltb hi lo (box-order i h)) s))
+
+  counted : (lack i k : ℕ) → i < n → full (lacking lack (weightOf i)) (positives (jobOf ws) (i + 1) k) ≡ full lack (positives (jobOf ws) i (suc k))
+  unfolding positives
+  counted lack i k h = rw (A .cell i h .weight .natural, add-one i) (lacks-less lack (weightOf i) (positives (jobOf ws) (suc i) k))
+
+  ended : (lack i : ℕ) → i < n → full (lacking lack (weightOf i)) 0 ≡ full lack (positives (jobOf ws) i 1)
+  unfolding positives
+  ended lack i h = counted lack i 0 h
+
+  -- k cells of the row of the cell i, then r rows
+  cells-on : (m want lack column i k r : ℕ) → i + m ≡ n → column + k ≡ columnsOf ws → 1 ≤ k → m ≡ k + r * columnsOf ws
+      → want ≤ full lack (positives (jobOf ws) i k) + rowsHeld (jobOf ws) (i + k) r
+      → At (H + 4 * i) (Crude (cellAt want lack column i)) → At (H + 4 * n) (LinkCount n)
+  unfolding rowsHeld
+  cells-on zero want lack column i k r e c h q l w = absurd (omega (arith, q))
+  cells-on (suc m) want lack column i zero r e c h q l w = absurd (omega arith)
+  cells-on (suc m) want lack column i (suc zero) zero e c h q l w =
+      let z = N.zero-mul (columnsOf ws) in
+      let x = lacking lack (weightOf i) in
+      let in-cells : i < n = omega arith in
+      let none : wanted want x ≤ 0 = held-row want x 0 (rw (ended lack i in-cells) l) in
+      stands-at (omega (arith, q, z))
+      (cell-on (cellAt want lack column i) (wanted want x) (acrossOf ws) 0 i in-cells (rw (le-ltb (column + 1) (columnsOf ws) (omega arith))) w (LinkCount n)
+      (rw (le-ltb (i + 1) n (omega (arith, q, z)), le-ltb 0 (wanted want x) none)))
+  cells-on (suc m) want lack column i (suc zero) (suc r) e c h q l w =
+      let z = N.suc-mul r (columnsOf ws) in
+      let x = lacking lack (weightOf i) in
+      let in-cells : i < n = omega arith in
+      let left : wanted want x ≤ rowsHeld (jobOf ws) (i + 1) (suc r) = held-row want x (rowsHeld (jobOf ws) (i + 1) (suc r)) (rw (ended lack i in-cells) l) in
+      cells-on m (wanted want x) (acrossOf ws) 0 (i + 1) (columnsOf ws) r (omega arith) (omega arith) (columns-some L A) (omega (arith, q, z)) left
+      (cell-on (cellAt want lack column i) (wanted want x) (acrossOf ws) 0 i in-cells (rw (le-ltb (column + 1) (columnsOf ws) (omega arith))) w
+      (Crude (cellAt (wanted want x) (acrossOf ws) 0 (i + 1))) (rw (lt-ltb (i + 1) n (omega (arith, q, z, columns-some L A)))))
+  cells-on (suc m) want lack column i (suc (suc k)) r e c h q l w =
+      let x = lacking lack (weightOf i) in
+      let in-cells : i < n = omega arith in
+      let on : i + 1 + suc k ≡ i + suc (suc k) = omega arith in
+      cells-on m want x (column + 1) (i + 1) (suc k) r (omega arith) (omega arith) (omega arith) (omega (arith, q)) (rw (counted lack i (suc k) in-cells, on) l)
+      (cell-on (cellAt want lack column i) want x (column + 1) i in-cells (rw (lt-ltb (column + 1) (columnsOf ws) (omega arith))) w
+      (Crude (cellAt want x (column + 1) (i + 1))) (rw (lt-ltb (i + 1) n (omega (arith, q)))))
 
   -- one link
   abbrev linkAt : (l terms least : ℕ) → Links
@@ -251,12 +330,15 @@ module _ (ws : List ℤ) (L : Laid ws) (A : Allowed (jobOf ws)) where
   at-the-end at = rw (le-ltb links links (omega arith))
 
   pub job-passes : (k : ℕ) × (writeJob ws .outcome ≡ Done k)
-  unfolding stepOf
+  unfolding stepOf rowsHeld
   job-passes =
       let room = head in
-      let some : suc (n - 1) ≡ n = omega (arith, A .cells-some) in
-      let c : At (6 + 4 * n) (LinkCount n) =
-      cells-on (n - 1) z 0 (omega (arith, some)) (subst (λ (k : ℕ). z ≤ positives (jobOf ws) 0 k) (sym some) (A .weights)) (stands-at (omega arith) first-cell) in
+      let r = rowsOf ws - 1 in
+      let rows : rowsOf ws ≡ suc r = omega (arith, A .order-less) in
+      let left : n ≡ columnsOf ws + r * columnsOf ws = omega (arith, A .cells-are, ap (λ (k : ℕ). k * columnsOf ws) rows, N.suc-mul r (columnsOf ws)) in
+      let c : At (H + 4 * n) (LinkCount n) =
+      cells-on n (orderOf ws) (acrossOf ws) 0 0 (columnsOf ws) r (omega arith) (omega arith) (columns-some L A) left
+      (subst (λ (k : ℕ). orderOf ws ≤ rowsHeld (jobOf ws) 0 k) rows (A .weights)) first-cell in
       let d : At (startOf ws 0) (linksFrom n links 0) =
       stands-at (omega (arith, start-first)) (plain c (omega arith) refl refl (L .links) (rw (within-most 0 160 links (omega arith) (A .links-few)))) in
       let e = links-on links 0 (omega arith) d in

@@ -1,13 +1,15 @@
 -- What is known of a job that was read (document 01, "Numbers allowed", and the refusals 3, 4 and 5), and of the words it was read into.
 use Prim.Native.Nat.{ℕ, zero, suc, _+_, _*_, _≤_, _<_}
 use mathlib.Core.Path.{_≡_}
+use mathlib.Core.Bool.{Bool, true, false}
 use mathlib.Core.List.{List}
+use lib.Dec.{leb}
 use lib.IntN.{ℤ, pos, natAbs}
 use lib.ListN.{length}
 use lib.Signed.{_≤ℤ_, ltZ}
 use Rattle.numbers.specs.Choice.{if_then_else_}
 use Rattle.jobs.specs.Job.{Job}
-use Rattle.jobs.specs.Words.{wordAt, countAt, headWords, cellWords, cellsOf, linksOf, startOf}
+use Rattle.jobs.specs.Words.{wordAt, countAt, isGrid, headWords, cellWords, cellsOf, linksOf, startOf}
 
 -- A number from 0 to a most.
 pub record Upto (most : ℕ) (z : ℤ) : Type 0 where
@@ -38,19 +40,50 @@ unfoldable pub positives : Job → (i k : ℕ) → ℕ
 positives j i zero = 0
 positives j i (suc k) = (if ltZ (pos 0) (j .weight i) then 1 else 0) + positives j (suc i) k
 
+-- How many of the k rows, of which the first starts at the cell i, hold at least the order across of positive weights.
+unfoldable pub rowsHeld : Job → (i k : ℕ) → ℕ
+rowsHeld j i zero = 0
+rowsHeld j i (suc k) = (if leb (j .across) (positives j i (j .columns)) then 1 else 0) + rowsHeld j (i + j .columns) k
+
+-- W-205: "rows, columns (each at least 2, product n), the order down, the order across (each 1..4, less than its length) and a second constant (1..999)":
+-- what a grid has beyond that which every job has.
+pub record GridAllowed (j : Job) : Type 0 where
+  pub rows-some : 2 ≤ j .rows
+  pub columns-some : 2 ≤ j .columns
+  pub across-less : j .across < j .columns
+  pub second-some : 1 ≤ natAbs (j .second)
+
+-- A job that is no grid.
+pub record LineAllowed (j : Job) : Type 0 where
+  pub columns-one : j .columns ≡ 1
+  pub across-one : j .across ≡ 1
+  pub second-none : j .second ≡ pos 0
+
+abbrev pub ShapeAllowed : Job → (grid : Bool) → Type 0
+ShapeAllowed j true = GridAllowed j
+ShapeAllowed j false = LineAllowed j
+
 pub record Allowed (j : Job) : Type 0 where
   pub society : j .society ≤ 7
   pub number : j .number ≤ 4294967295
   pub cells-some : 2 ≤ j .cells
   pub cells-few : j .cells ≤ 120
+  pub shape : ShapeAllowed j (j .grid)
+  pub cells-are : j .rows * j .columns ≡ j .cells
   pub order-some : 1 ≤ j .order
   pub order-few : j .order ≤ 4
-  pub order-less : j .order < j .cells
+  pub order-less : j .order < j .rows
+  pub across-some : 1 ≤ j .across
+  pub across-few : j .across ≤ 4
+  pub second : Upto 999 (j .second)
   pub constant : Upto 1000 (j .constant)
   pub constant-some : 1 ≤ natAbs (j .constant)
+  -- "both constants are at least 1 and together at most 1,000"
+  pub constants : natAbs (j .constant) + natAbs (j .second) ≤ 1000
   pub tolerance : Upto 1000000000000000 (j .tolerance)
   pub cell : (i : ℕ) → i < j .cells → CellAllowed j i
-  pub weights : j .order ≤ positives j 0 (j .cells)
+  -- "4 when fewer rows than the order down hold at least the order across of positive weights"
+  pub weights : j .order ≤ rowsHeld j 0 (j .rows)
   pub links-few : j .links ≤ 160
   pub link : (l : ℕ) → l < j .links → LinkAllowed j l
 
@@ -64,13 +97,21 @@ pub record Counts (ws : List ℤ) (at : ℕ) : Type 0 where
   pub natural : Counted ws at
   pub small : countAt ws at ≤ 1000
 
+-- The words of a grid between its order field and its second constant.
+pub record GridLaid (ws : List ℤ) : Type 0 where
+  pub rows : Counted ws 4
+  pub columns : Counted ws 5
+  pub down : Counted ws 6
+  pub across : Counted ws 7
+
 -- The words are those of a whole job pack: every word that counts or names is not negative, and the last link ends where they end.
 pub record Laid (ws : List ℤ) : Type 0 where
   pub society : Counted ws 0
   pub number : Counted ws 1
   pub cells : Counted ws 2
   pub order : Counted ws 3
-  pub links : Counted ws (headWords + cellWords * cellsOf ws)
+  pub grid : isGrid ws ≡ true → GridLaid ws
+  pub links : Counted ws (headWords ws + cellWords * cellsOf ws)
   pub terms : (j : ℕ) → j < linksOf ws → Counted ws (startOf ws j)
   pub cell : (j m : ℕ) → j < linksOf ws → m < countAt ws (startOf ws j) → Counted ws (startOf ws j + 1 + 2 * m)
   pub ends : startOf ws (linksOf ws) ≡ length ws

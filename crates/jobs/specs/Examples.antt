@@ -1,7 +1,7 @@
 -- The examples of document 01, "Packs" and "Tables worked by hand", that speak of packs alone. Bytes are written in decimal: 7F is 127, 80 is 128, AC is 172.
 use Prim.Native.Nat.{ℕ}
 use mathlib.Core.Path.{_≡_}
-use mathlib.Core.List.{List, [], _∷_}
+use mathlib.Core.List.{List, [], _∷_, _++_}
 use lib.IntN.{pos, negsuc}
 use lib.ListN.{getD}
 use Rattle.numbers.specs.declared.plain.Number.the-variants.{Value, Unreadable}
@@ -20,6 +20,13 @@ workedProposal = 2 ∷ 3 ∷ 2 ∷ []
 -- The same job with 0 in its order field.
 abbrev pub houseJob : List ℕ
 houseJob = 3 ∷ 7 ∷ 3 ∷ 0 ∷ 1 ∷ 0 ∷ 0 ∷ 1 ∷ 0 ∷ 100 ∷ 7 ∷ 1 ∷ 0 ∷ 100 ∷ 0 ∷ 1 ∷ 0 ∷ 100 ∷ 0 ∷ []
+
+-- W-205: a grid of 2 rows and 3 columns, the order down 1, the order across 2, the second constant 999, k 1, T 0, by its weights. Cells run along a row first.
+abbrev cell : (weight : ℕ) → List ℕ
+cell w = 0 ∷ w ∷ 0 ∷ 100 ∷ []
+
+abbrev pub gridJob : (k a b c d e f : ℕ) → List ℕ
+gridJob k a b c d e f = 3 ∷ 7 ∷ 6 ∷ 5 ∷ 2 ∷ 3 ∷ 1 ∷ 2 ∷ 231 ∷ 7 ∷ k ∷ 0 ∷ (cell a ++ cell b ++ cell c ++ cell d ++ cell e ++ cell f ++ (0 ∷ []))
 
 pub record Examples : Type 0 where
   -- "127 is 7F, 128 is 80 01, 300 is AC 02; 80 00 is refused."
@@ -43,3 +50,11 @@ pub record Examples : Type 0 where
   -- "a 0 in the order field stays 0"
   pub order-kept : getD (readJob houseJob .words) 3 (pos 9) ≡ pos 0
   pub order-written : writeJob (readJob houseJob .words) .bytes ≡ houseJob
+  -- W-205: its 36 numbers; "both constants … together at most 1,000"; "4 when fewer rows than the order down hold at least the order across of positive weights"
+  pub grid : readJob (gridJob 1 1 0 0 0 1 1) .outcome ≡ Done 36
+  pub grid-written : writeJob (readJob (gridJob 1 1 0 0 0 1 1) .words) .bytes ≡ gridJob 1 1 0 0 0 1 1
+  pub constants : readJob (gridJob 2 1 0 0 0 1 1) .outcome ≡ Refused 2 10
+  pub weights : readJob (gridJob 1 1 0 0 0 1 0) .outcome ≡ Refused 4 0
+  -- rows are tested alone, the product at the columns: 7 rows of 16 cells
+  pub seven-rows : readJob (0 ∷ 0 ∷ 16 ∷ 5 ∷ 7 ∷ 2 ∷ []) .outcome ≡ Refused 2 5
+  pub one-row : readJob (0 ∷ 0 ∷ 16 ∷ 5 ∷ 1 ∷ 16 ∷ []) .outcome ≡ Refused 2 4

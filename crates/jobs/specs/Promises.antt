@@ -15,7 +15,7 @@ use Rattle.jobs.specs.Packs.{readJob, writeJob, readProposal, writePropo
 
 -- ---- what is read
 
--- A job that is read is allowed, and its words lie as the pack's numbers do; their count is what is answered, and at most 2,087.
+-- A job that is read is allowed, and its words lie as the pack's numbers do; their count is what is answered, and at most 2,092.
 abbrev pub ReadJobsAllowed : Type 0
 ReadJobsAllowed = (s : List ℕ) (k : ℕ) → readJob s .outcome ≡ Done k → Allowed (jobOf (readJob s .words))
 
@@ -26,7 +26,7 @@ abbrev pub ReadWordsCounted : Type 0
 ReadWordsCounted = (s : List ℕ) (k : ℕ) → readJob s .outcome ≡ Done k → k ≡ length (readJob s .words)
 
 abbrev pub ReadWordsFew : Type 0
-ReadWordsFew = (s : List ℕ) (k : ℕ) → readJob s .outcome ≡ Done k → length (readJob s .words) ≤ 2087
+ReadWordsFew = (s : List ℕ) (k : ℕ) → readJob s .outcome ≡ Done k → length (readJob s .words) ≤ 2092
 
 -- A proposal that is read has a value a cell and a multiplier a link, all in range.
 abbrev pub ReadProposalsProposed : Type 0

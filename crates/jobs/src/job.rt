@@ -9,8 +9,8 @@ ghost use Rattle.packs.specs.Reading.{Hands};
 ghost use Rattle.packs.specs.Writing.{roomed, Leaves};
 ghost use Rattle.jobs.specs.Packs.{handedOut, readJobInto, writeJob};
 
-// A job has at most so many words: 6 before its cells, 4 a cell, the link count, and 10 a link.
-pub const JOB_WORDS: usize = 2087;
+// A job has at most so many words: 11 before its cells if it is a grid, 4 a cell, the link count, and 10 a link.
+pub const JOB_WORDS: usize = 2092;
 
 // The first k words for the lender, if there is room for them.
 fn hand_out(words: &[i64], k: usize, out: &mut [i64]) -> Outcome

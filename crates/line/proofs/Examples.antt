@@ -4,7 +4,7 @@ use Rattle.whole.specs.Sum.{sum}
 use Rattle.numbers.specs.Plain.{numberIn}
 use Rattle.fields.specs.Table.{stepOf}
 use Rattle.packs.specs.Reading.{runFrom}
-use Rattle.jobs.specs.Words.{startOf}
+use Rattle.jobs.specs.Words.{headWords, rowsOf, columnsOf, orderOf, acrossOf, secondOf, startOf}
 use Rattle.rows.specs.Rows.{rowOf}
 use Rattle.measure.specs.Loss.{lossOf}
 use Rattle.measure.specs.Gap.{linkSum, residualOf, gapOf}
@@ -14,5 +14,5 @@ use Rattle.line.specs.Line.{digitsIn, later, checkedLine, lineOf}
 use Rattle.line.specs.Promises.{WorkedLines}
 
 pub worked-lines : WorkedLines
-unfolding sum numberIn stepOf runFrom startOf rowOf lossOf linkSum residualOf gapOf lowestFrom verdictOf checkedOf digitsIn later checkedLine lineOf
+unfolding sum numberIn stepOf runFrom headWords rowsOf columnsOf orderOf acrossOf secondOf startOf rowOf lossOf linkSum residualOf gapOf lowestFrom verdictOf checkedOf digitsIn later checkedLine lineOf
 worked-lines = (refl, refl)

@@ -33,7 +33,7 @@ checked-fits job proposal = go (checkOf job proposal) refl
   where
     go : (v : Verdict) → checkOf job proposal ≡ v → length (checkedLine (checkedOf job proposal)) ≤ 1024
     go (Accepted F G) e =
-        let words = sets (replicate 2087 (pos 0)) 0 (readJob job .words) in
+        let words = sets (replicate 2092 (pos 0)) 0 (readJob job .words) in
         let rates = sets (replicate 280 (pos 0)) 0 (proposalWords job proposal) in
         let given = given-packs job proposal F G e words refl rates refl in
         omega (

@@ -51,7 +51,7 @@ module _ {words rates : List ℤ} {n : ℕ} (J : JobWords words) (R : Rates n ra
 
 -- ---- two packs that the check has accepted
 module _ (job proposal : List ℕ) (F G : ℤ) (e : checkOf job proposal ≡ Accepted F G)
-    (scratch : List ℤ) (stored : scratch ≡ sets (replicate 2087 (pos 0)) 0 (readJob job .words))
+    (scratch : List ℤ) (stored : scratch ≡ sets (replicate 2092 (pos 0)) 0 (readJob job .words))
     (read : List ℤ) (kept : read ≡ sets (replicate 280 (pos 0)) 0 (proposalWords job proposal)) where
   pub accepted-line : tableLine scratch read (cellsOf scratch) (natAbs F) (natAbs G) ≡ checkedLine (checkedOf job proposal)
   unfolding checkedOf checkedLine

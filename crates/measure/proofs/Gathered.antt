@@ -1,5 +1,4 @@
--- What a cell gets back from the differences that use it: each product of any row fits 64 bits, and for the rows of the orders the sum is at most
--- 128,000,000.
+-- What a cell gets back from the differences that use it: each product of any row fits 64 bits.
 use Prim.Native.Nat.{ℕ, suc, _-_, _*_, _≤_, _<_, zero-le}
 use mathlib.Core.Path.{_≡_, ap₂}
 use mathlib.Core.Bool.{Bool, true, false, cond}
@@ -12,13 +11,10 @@ use mir.Syntax.{w64}
 use mir.Val.{SFits}
 use Rattle.whole.proofs.Magnitude.{bound-*}
 use Rattle.whole.proofs.Fits.{Adds, small-fits, gives}
-use Rattle.certificate.specs.Differences.{along, earlier, gathered}
-use Rattle.certificate.proofs.Differences.{gathered-size}
+use Rattle.certificate.specs.Differences.{earlier}
 use Rattle.jobs.specs.Words.{wordAt}
-use Rattle.rows.specs.Rows.{rowOf}
 use Rattle.measure.specs.Given.{Differences, Gathers}
 use Rattle.measure.proofs.Places.{read}
-use Rattle.rows.proofs.Rule.{row-size}
 use Rattle.measure.proofs.Differences.{coefficient-read}
 
 module _ {count : ℕ} {d : List ℤ} (S : Differences count d) (i : ℕ) where
@@ -32,11 +28,6 @@ module _ {count : ℕ} {d : List ℤ} (S : Differences count d) (i : ℕ) where
 
   earlier-fits : (k : ℕ) → SFits w64 (earlier (wordAt d) count i k)
   earlier-fits k = small-fits (earlier (wordAt d) count i k) (earlier-small k) (lit< tt)
-
-  pub gathered-small : (z stride : ℕ) → z ≤ 4 → natAbs (gathered (along (rowOf z) z stride count) (wordAt d) i) ≤ 128000000
-  gathered-small z stride h =
-      N.le-trans (gathered-size (along (rowOf z) z stride count) (wordAt d) i 8000000 (λ f l. S .each f l .small))
-      (N.mul-le-mul-right 8000000 (row-size z h))
 
 module _ {row : List ℤ} {z stride count : ℕ} {d : List ℤ} (S : Gathers row z stride count d) (i : ℕ) where
   pub gathered-adds : Adds (λ m. wordAt row m *ℤ earlier (wordAt d) count i (m * stride)) (suc z) 8000000000

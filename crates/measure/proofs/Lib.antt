@@ -8,6 +8,7 @@ pub mod Lowest
 pub mod Scattered
 pub mod Walks
 pub mod Gathered
+pub mod Directions
 pub mod Residuals
 pub mod Totalled
 pub mod Verdicts

@@ -67,7 +67,7 @@ module _ {ws : List ℤ} (A : Allowed (jobOf ws)) (L : Laid ws) {n links : ℕ} 
 
 -- ---- a job
 
-module _ (s proposal : List ℕ) {o : Outcome} (l₀ : List ℤ) {l : List ℤ} (long : length l₀ ≡ 2087) (eo : o ≡ readJob s .outcome) (q : l ≡ sets l₀ 0 (readJob s .words)) where
+module _ (s proposal : List ℕ) {o : Outcome} (l₀ : List ℤ) {l : List ℤ} (long : length l₀ ≡ 2092) (eo : o ≡ readJob s .outcome) (q : l ≡ sets l₀ 0 (readJob s .words)) where
   pub job-refused : {number place : ℕ} → o ≡ Refuses number place → Refused number place ≡ checkOf s proposal
   job-refused u = ap (λ (o : Outcome). onRead o (proposalVerdict (jobOf (readJob s .words)) proposal)) (sym (sym eo ∙ u))
 
@@ -76,7 +76,7 @@ module _ (s proposal : List ℕ) {o : Outcome} (l₀ : List ℤ) {l : List ℤ} 
       ap (λ (o : Outcome). sets p 0 (ifRead o (readProposal (jobOf (readJob s .words) .cells) (jobOf (readJob s .words) .links) proposal .words))) (sym (sym eo ∙ u))
 
   module _ {k : ℕ} (u : o ≡ Done k) where
-    few-words : k ≤ 2087
+    few-words : k ≤ 2092
     few-words = omega (arith, read-words-counted s k (sym eo ∙ u), read-words-few s k (sym eo ∙ u))
 
     job-head : take k l ≡ readJob s .words

@@ -14,11 +14,8 @@ use mir.Val.{toZ, ofZ}
 use Rattle.whole.proofs.Fits.{Holds, small-fits, gives}
 use Rattle.numbers.proofs.Clash.{clash}
 use Rattle.certificate.specs.Terms.{cellTerm}
-use Rattle.certificate.specs.Differences.{along, gathered}
 use Rattle.certificate.proofs.Terms.{cell-terms-not-negative}
 use Rattle.jobs.specs.Words.{wordAt, cellsOf, linksOf, jobOf}
-use Rattle.jobs.proofs.Places.{cells-inside}
-use Rattle.rows.specs.Rows.{rowOf}
 use Rattle.measure.specs.Gap.{limit, residualOf}
 use Rattle.measure.specs.Given.{ResidualAt, CellAt, CellNumbers, Settles, Totalling}
 use Rattle.measure.specs.Running.{settledOf, runOf}
@@ -27,14 +24,11 @@ use Rattle.measure.proofs.Terms.{cell-small, true-T}
 use Rattle.measure.proofs.Totals.{Runs, settles-call, settles-next}
 use Rattle.measure.proofs.Walks.{parts-small}
 use Rattle.measure.specs.OnWords.{linkPartOn, residualOn, residualWith, cellTermWith, cellTermOn}
-use Rattle.measure.proofs.Residuals.{slopes-small, slopes, smooth-is}
+use Rattle.measure.proofs.Residuals.{slopes-small, slopes, residual-is as plain-is}
 
 -- ---- the cell term
 
 module _ {ws ps : List ℤ} {i : ℕ} {r : ℤ} (C : CellAt ws ps i r) where
-  pub cell-words : 9 + 4 * i < length ws
-  cell-words = omega (arith, C .inside, cells-inside (C .given .laid))
-
   pub cell-value : i < length ps
   cell-value = omega (arith, C .inside, C .given .proposed .count)
 
@@ -64,20 +58,20 @@ module _ {ws ps : List ℤ} {i : ℕ} {r : ℤ} (C : CellAt ws ps i r) where
   v-read : read (wordAt ps i) ≡ wordAt ps i
   v-read = rate-read (cell-numbers .box .v-in)
 
-  pub cell-call : CellNumbers (read (jobOf ws .weight i)) (read r) (read (jobOf ws .floor i)) (read (jobOf ws .ceiling i)) (read (wordAt ps i))
-  cell-call = rw (w-read, r-read, lo-read, hi-read, v-read) cell-numbers
+  -- with the words that the code has
+  pub cell-call : {w lo hi : ℤ} → w ≡ jobOf ws .weight i → lo ≡ jobOf ws .floor i → hi ≡ jobOf ws .ceiling i
+      → CellNumbers (read w) (read r) (read lo) (read hi) (read (wordAt ps i))
+  cell-call ew el eh = rw (ew, el, eh, w-read, r-read, lo-read, hi-read, v-read) cell-numbers
 
   cell-term-small : natAbs (cellTermWith ws ps i r) ≤ 7000000000000000000
   cell-term-small = cell-small (jobOf ws .weight i) r (jobOf ws .floor i) (jobOf ws .ceiling i) (wordAt ps i) cell-numbers
 
-  pub cell-result : {t : ℤ} → t ≡ cellTerm limit (read (jobOf ws .weight i)) (read r) (read (jobOf ws .floor i)) (read (jobOf ws .ceiling i)) (read (wordAt ps i))
-      → read t ≡ cellTermWith ws ps i r
-  cell-result {t} e =
+  pub cell-result : {w lo hi t : ℤ} → w ≡ jobOf ws .weight i → lo ≡ jobOf ws .floor i → hi ≡ jobOf ws .ceiling i
+      → t ≡ cellTerm limit (read w) (read r) (read lo) (read hi) (read (wordAt ps i)) → read t ≡ cellTermWith ws ps i r
+  cell-result ew el eh e =
       gives
       (e
-      ∙ ap₂ (λ (w r : ℤ). cellTerm limit w r (read (jobOf ws .floor i)) (read (jobOf ws .ceiling i)) (read (wordAt ps i))) w-read r-read
-      ∙ ap₂ (λ (lo hi : ℤ). cellTerm limit (jobOf ws .weight i) r lo hi (read (wordAt ps i))) lo-read hi-read
-      ∙ ap (λ (v : ℤ). cellTerm limit (jobOf ws .weight i) r (jobOf ws .floor i) (jobOf ws .ceiling i) v) v-read)
+      ∙ (λ j. cellTerm limit ((ap read ew ∙ w-read) j) (r-read j) ((ap read el ∙ lo-read) j) ((ap read eh ∙ hi-read) j) (v-read j)))
       (small-fits (cellTermWith ws ps i r) cell-term-small (lit< tt))
 
 -- ---- the loop over the cells
@@ -86,21 +80,21 @@ box-both : (a b : Bool) → (a && b) ≡ true → (a ≡ true) × (b ≡ true)
 box-both true b e = (refl, e)
 box-both false b e = clash (cc)
 
-pub totalling-by : {ws ps : List ℤ} {n z : ℕ} {d parts : List ℤ} {start start′ : ℤ} → start ≡ start′ → Totalling ws ps n z d parts start
-    → Totalling ws ps n z d parts start′
-totalling-by {ws} {ps} {n} {z} {d} {parts} e H = subst (λ (x : ℤ). Totalling ws ps n z d parts x) e H
+pub totalling-by : {ws ps : List ℤ} {n : ℕ} {sl parts : List ℤ} {start start′ : ℤ} → start ≡ start′ → Totalling ws ps n sl parts start
+    → Totalling ws ps n sl parts start′
+totalling-by {ws} {ps} {n} {sl} {parts} e H = subst (λ (x : ℤ). Totalling ws ps n sl parts x) e H
 
-module _ {ws ps : List ℤ} {n z : ℕ} {d parts : List ℤ} {start : ℤ} (H : Totalling ws ps n z d parts start) where
+module _ {ws ps : List ℤ} {n : ℕ} {sl parts : List ℤ} {start : ℤ} (H : Totalling ws ps n sl parts start) where
   linked-read : (i : ℕ) → i < n → read (wordAt parts i) ≡ linkPartOn ws ps i
   linked-read i h =
       gives (H .parts-are i h)
       (small-fits (linkPartOn ws ps i) (parts-small (H .measured .given) (linksOf ws) i (N.le-refl (linksOf ws))) (lit< tt))
 
-  plain-at : (i : ℕ) → i < n → ResidualAt ws ps n z d i (linkPartOn ws ps i)
+  plain-at : (i : ℕ) → i < n → ResidualAt ws ps n sl i (linkPartOn ws ps i)
   plain-at i h = record { measured = H .measured; inside = h; part-small = parts-small (H .measured .given) (linksOf ws) i (N.le-refl (linksOf ws)) }
 
-  pub total-residual : (i : ℕ) → i < n → ResidualAt ws ps n z d i (read (wordAt parts i))
-  total-residual i h = subst (λ (x : ℤ). ResidualAt ws ps n z d i x) (sym (linked-read i h)) (plain-at i h)
+  pub total-residual : (i : ℕ) → i < n → ResidualAt ws ps n sl i (read (wordAt parts i))
+  total-residual i h = subst (λ (x : ℤ). ResidualAt ws ps n sl i x) (sym (linked-read i h)) (plain-at i h)
 
   residual-is : (i : ℕ) → i < n → {r : ℤ}
       → r ≡ residualWith ws ps i (read (wordAt parts i))
@@ -111,9 +105,8 @@ module _ {ws ps : List ℤ} {n z : ℕ} {d parts : List ℤ} {start : ℤ} (H : 
   residual-small : (i : ℕ) → i < n → natAbs (residualOn ws ps i) ≤ 7000000000000
   unfolding residualOf
   residual-small i h =
-      subst (λ (x : ℤ). natAbs (pos 2 *ℤ jobOf ws .weight i *ℤ (wordAt ps i -ℤ jobOf ws .crude i) +ℤ x +ℤ linkPartOn ws ps i) ≤ 7000000000000)
-      (smooth-is (plain-at i h) {k = jobOf ws .constant} {s = gathered (along (rowOf z) z 1 (n - z)) (wordAt d) i} refl refl)
-      (N.le-trans (slopes-small (slopes (plain-at i h) {k = jobOf ws .constant} {s = gathered (along (rowOf z) z 1 (n - z)) (wordAt d) i} refl refl)) (leb→le 6660000000000 7000000000000 tt))
+      subst (λ (x : ℤ). natAbs x ≤ 7000000000000) (plain-is (plain-at i h) {s = wordAt sl i} refl refl refl)
+      (N.le-trans (slopes-small (slopes (plain-at i h) {s = wordAt sl i} refl refl refl)) (leb→le 6916000000000 7000000000000 tt))
 
   cell-at : (i : ℕ) → i < n → CellAt ws ps i (residualOn ws ps i)
   cell-at i h = record { given = H .measured .given; inside = subst (λ (x : ℕ). i < x) (H .measured .n-is) h; r-small = residual-small i h }

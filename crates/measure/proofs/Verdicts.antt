@@ -15,45 +15,41 @@ use mir.Val.{SFits}
 use Rattle.numbers.specs.Choice.{if_then_else_}
 use Rattle.numbers.proofs.Clash.{clash}
 use Rattle.whole.specs.Sum.{sum}
-use Rattle.certificate.specs.Differences.{formAt}
 use Rattle.whole.proofs.Fits.{small-fits, gives}
 use Rattle.jobs.specs.Words.{wordAt, cellsOf, linksOf, jobOf}
-use Rattle.rows.specs.Rows.{rowOf, IsRow}
-use Rattle.jobs.proofs.Places.{zeros-at, cells-inside}
+use Rattle.jobs.proofs.Places.{zeros-at}
 use Rattle.measure.specs.declared.check.Verdict.{Verdict}
 use Rattle.measure.specs.declared.check.Verdict.the-variants.{Accepted, Refused}
 use Rattle.measure.specs.declared.links.Walked.{Walked}
 use Rattle.measure.specs.declared.links.Walked.the-variants.{Broken, Held}
 use Rattle.measure.specs.Gap.{gapOf}
 use Rattle.measure.specs.Check.{lowestFailing, verdictOf}
-use Rattle.measure.specs.Given.{Given, Differs, Measured, Walking, Totalling, Boxes, Judging}
+use Rattle.measure.specs.Given.{Given, Smoothing, Measured, Losing, Walking, Totalling, Boxes, Judging}
 use Rattle.measure.specs.Running.{Filled, Added, runOf, walkOf, onWalked}
 use Rattle.measure.proofs.Places.{read, rate-read, tolerance-fits}
-use Rattle.measure.proofs.Differences.{row-form}
-use Rattle.measure.proofs.Losses.{differs, loss-in-64}
+use Rattle.measure.proofs.Directions.{rough-fits, loss-in-64}
 use Rattle.measure.proofs.Terms.{true-T}
 use Rattle.measure.proofs.Totals.{Runs, run-least, run-small, run-fits, Tells, tells-start, run-tells, not-le-lt, lt-not-le}
 use Rattle.measure.proofs.Lowest.{Passed, lowest-all, passed-all}
 use Rattle.measure.proofs.Walks.{links-run}
 use Rattle.measure.proofs.Totalled.{cells-run}
-use Rattle.measure.specs.OnWords.{inBoxOn, holdsOn, lossOn, cellTermOn, linkTermOn, gapOn, judgedOn, verdictOn, heldOn, partsOn, walkOn}
+use Rattle.measure.specs.OnWords.{inBoxOn, holdsOn, lossOn, roughOn, slopeOn, cellTermOn, linkTermOn, gapOn, judgedOn, verdictOn, heldOn, partsOn, walkOn}
 
 -- ---- a cell's box, in code
 
 module _ {ws ps : List ℤ} (G : Given ws ps) (i : ℕ) (h : i < cellsOf ws) where
-  pub box-words : 9 + 4 * i < length ws
-  box-words = omega (arith, cells-inside (G .laid))
+  -- with the words that the code has
+  module _ {lo hi : ℤ} (el : lo ≡ jobOf ws .floor i) (eh : hi ≡ jobOf ws .ceiling i) where
+    floor-is : leZ (read lo) (read (wordAt ps i)) ≡ leZ (jobOf ws .floor i) (wordAt ps i)
+    floor-is = ap₂ leZ (ap read el ∙ rate-read (G .allowed .cell i h .floor)) (rate-read (G .proposed .value i h))
 
-  floor-is : leZ (read (jobOf ws .floor i)) (read (wordAt ps i)) ≡ leZ (jobOf ws .floor i) (wordAt ps i)
-  floor-is = ap₂ leZ (rate-read (G .allowed .cell i h .floor)) (rate-read (G .proposed .value i h))
+    pub box-high : leZ (read lo) (read (wordAt ps i)) ≡ true → leZ (read (wordAt ps i)) (read hi) ≡ inBoxOn ws ps i
+    box-high e =
+        ap₂ leZ (rate-read (G .proposed .value i h)) (ap read eh ∙ rate-read (G .allowed .cell i h .ceiling))
+        ∙ ap (λ (a : Bool). a && leZ (wordAt ps i) (jobOf ws .ceiling i)) (sym (sym floor-is ∙ e))
 
-  pub box-high : leZ (read (jobOf ws .floor i)) (read (wordAt ps i)) ≡ true → leZ (read (wordAt ps i)) (read (jobOf ws .ceiling i)) ≡ inBoxOn ws ps i
-  box-high e =
-      ap₂ leZ (rate-read (G .proposed .value i h)) (rate-read (G .allowed .cell i h .ceiling))
-      ∙ ap (λ (a : Bool). a && leZ (wordAt ps i) (jobOf ws .ceiling i)) (sym (sym floor-is ∙ e))
-
-  pub box-low : leZ (read (jobOf ws .floor i)) (read (wordAt ps i)) ≡ false → false ≡ inBoxOn ws ps i
-  box-low e = ap (λ (a : Bool). a && leZ (wordAt ps i) (jobOf ws .ceiling i)) (sym (sym floor-is ∙ e))
+    pub box-low : leZ (read lo) (read (wordAt ps i)) ≡ false → false ≡ inBoxOn ws ps i
+    box-low e = ap (λ (a : Bool). a && leZ (wordAt ps i) (jobOf ws .ceiling i)) (sym (sym floor-is ∙ e))
 
 -- ---- 7, 8, and what is left
 
@@ -149,22 +145,17 @@ module _ {ws ps : List ℤ} {n : ℕ} (B : Boxes ws ps n) where
 
 -- ---- 9, or the loss and the gap
 
-module _ {ws ps : List ℤ} {n : ℕ} {total : ℤ} {parts : List ℤ} (J : Judging ws ps n total parts) {z : ℕ} (ez : z ≡ jobOf ws .order) where
-  pub judge-few : z ≤ 4
-  judge-few = omega (arith, ez, J .table .given .allowed .order-few)
+module _ {ws ps : List ℤ} {n : ℕ} {total : ℤ} {parts : List ℤ} (J : Judging ws ps n total parts) where
+  pub judge-smoothing : Smoothing ws ps n (replicate 120 (pos 0))
+  judge-smoothing = record { given = J .table .given; n-is = J .table .n-is; room = room-is (J .table); zeros = zeros-at 120 }
 
-  pub judge-differs : {row : List ℤ} → IsRow z row → ((i : ℕ) → i < n - z → Differs row z 1 i ps) × (n - z ≤ length (replicate 120 (pos 0)))
-  judge-differs q = (differs (J .table .given) (J .table .n-is) ez q, omega (arith, room-is (J .table)))
+  module _ {rough : ℤ} (er : rough ≡ roughOn ws ps) where
+    pub judge-losing : Losing ws ps n (read rough)
+    judge-losing = record { given = J .table .given; n-is = J .table .n-is; rough-is = gives er (rough-fits (J .table .given)) }
 
-  module _ {row : List ℤ} (q : IsRow z row) {d : List ℤ} (F : Filled (n - z) (λ i. formAt (wordAt row) z 1 i (wordAt ps)) (replicate 120 (pos 0)) d) where
-    pub judge-measured : Measured ws ps n z d
-    judge-measured = record {
-      given = J .table .given;
-      n-is = J .table .n-is;
-      z-is = ez;
-      room = omega (arith, room-is (J .table), F .long);
-      at = λ i h. F .at i h ∙ row-form q 1 i (wordAt ps) ∙ ap (λ (z : ℕ). formAt (rowOf z) z 1 i (wordAt ps)) ez;
-    }
+  module _ {sl : List ℤ} (F : Filled n (slopeOn ws ps) (replicate 120 (pos 0)) sl) where
+    judge-measured : Measured ws ps n sl
+    judge-measured = record { given = J .table .given; n-is = J .table .n-is; room = omega (arith, room-is (J .table), F .long); at = F .at }
 
     linked : Runs (jobOf ws .tolerance) (pos 0) (linkTermOn ws ps) (linksOf ws)
     linked = links-run (J .table .given) (linksOf ws) (N.le-refl (linksOf ws)) (J .kept)
@@ -172,7 +163,7 @@ module _ {ws ps : List ℤ} {n : ℕ} {total : ℤ} {parts : List ℤ} (J : Judg
     total-small : natAbs total ≤ 8000000000000000000
     total-small = subst (λ (x : ℤ). natAbs x ≤ 8000000000000000000) (sym (J .total-is)) (run-small linked (linksOf ws) (N.le-refl (linksOf ws)))
 
-    plain : Totalling ws ps n z d parts total
+    plain : Totalling ws ps n sl parts total
     plain = record {
       measured = judge-measured;
       room = J .parts-room;
@@ -185,8 +176,8 @@ module _ {ws ps : List ℤ} {n : ℕ} {total : ℤ} {parts : List ℤ} (J : Judg
     total-read : read total ≡ total
     total-read = gives refl (small-fits total total-small (lit< tt))
 
-    pub judge-totalling : Totalling ws ps n z d parts (read total)
-    judge-totalling = subst (λ (x : ℤ). Totalling ws ps n z d parts x) (sym total-read) plain
+    pub judge-totalling : Totalling ws ps n sl parts (read total)
+    judge-totalling = subst (λ (x : ℤ). Totalling ws ps n sl parts x) (sym total-read) plain
 
     -- with the gap's total and the tolerance that the code has
     module _ {g t : ℤ} (eg : g ≡ runOf (jobOf ws .tolerance) (read total) (cellTermOn ws ps) (cellsOf ws))

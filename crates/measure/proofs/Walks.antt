@@ -19,7 +19,7 @@ use Rattle.whole.proofs.Magnitude.{bound-+, bound-*}
 use Rattle.whole.proofs.Fits.{Holds, Adds, partial-small, small-fits, gives}
 use Rattle.jobs.specs.Words.{wordAt, countAt, linksOf, startOf, jobOf}
 use Rattle.jobs.specs.Allowed.{Upto}
-use Rattle.jobs.proofs.Places.{upto-nonneg, start-zero, start-suc, cells-inside}
+use Rattle.jobs.proofs.Places.{upto-nonneg, start-suc}
 use Rattle.measure.specs.declared.links.Walked.the-variants.{Broken, Held}
 use Rattle.measure.specs.Gap.{linkSum, linkCoefficient}
 use Rattle.measure.specs.Given.{Given, LinkAt, Linked, LinkNumbers, Scattering, Settles, Walking}
@@ -114,12 +114,9 @@ pub record Along (ws ps parts₀ : List ℤ) (l s total : ℕ) (parts : List ℤ
   pub parts-added : Added (partsOn ws ps l) parts₀ parts
 
 module _ {ws ps : List ℤ} {n : ℕ} {parts₀ : List ℤ} (W : Walking ws ps n parts₀) where
-  pub walk-room : 7 + 4 * n ≤ length ws
-  walk-room = omega (arith, W .n-is, cells-inside (W .given .laid))
-
-  pub walk-start : {total : ℕ} → toZ w64 total ≡ pos 0 → Along ws ps parts₀ 0 (7 + 4 * n) total parts₀
-  walk-start e = record {
-    starts = ap (λ (x : ℕ). 7 + 4 * x) (W .n-is) ∙ sym (start-zero ws);
+  pub walk-start : {s total : ℕ} → s ≡ startOf ws 0 → toZ w64 total ≡ pos 0 → Along ws ps parts₀ 0 s total parts₀
+  walk-start es e = record {
+    starts = es;
     passed = passed-start (holdsOn ws ps);
     total-holds = run-begins (jobOf ws .tolerance) (pos 0) (linkTermOn ws ps) e;
     parts-added = added-none parts₀ (λ i. sum-zero (λ l. multiplierOn ws ps l *ℤ linkCoefficient (jobOf ws) l i));

@@ -5,7 +5,7 @@ use Rattle.whole.specs.Sum.{sum, coefficientOf}
 use Rattle.certificate.specs.Terms.{cellTerm}
 use Rattle.certificate.specs.Differences.{difference, returned}
 use Rattle.jobs.specs.Job.{Job}
-use Rattle.measure.specs.Loss.{familyOf}
+use Rattle.measure.specs.Loss.{familyOf, familyAcross, acrossAt}
 
 -- The sum of the link l over a table, and the coefficient of the cell i in it, 0 where the link does not name the cell.
 unfoldable pub linkSum : Job → (l : ℕ) → (v : ℕ → ℤ) → ℤ
@@ -14,9 +14,13 @@ linkSum j l v = sum (j .terms l) (λ m. j .coefficient l m *ℤ v (j .cell l m))
 abbrev pub linkCoefficient : Job → (l i : ℕ) → ℤ
 linkCoefficient j l i = coefficientOf (j .terms l) (j .cell l) (j .coefficient l) i
 
--- "2k times the sum, over every D that uses cell i, of D times that cell's s"
+-- "2k times the sum, over every D that uses cell i, of D times that cell's s"; for a grid of both directions, each with its constant.
+abbrev pub slopeOf : Job → (v : ℕ → ℤ) → (i : ℕ) → ℤ
+slopeOf j v i =
+    j .constant *ℤ returned (familyOf j) (difference (familyOf j) v) i +ℤ j .second *ℤ returned (familyAcross j) (acrossAt j v) i
+
 abbrev pub smoothPart : Job → (v : ℕ → ℤ) → (i : ℕ) → ℤ
-smoothPart j v i = pos 2 *ℤ j .constant *ℤ returned (familyOf j) (difference (familyOf j) v) i
+smoothPart j v i = pos 2 *ℤ slopeOf j v i
 
 -- "the sum over links naming cell i of multiplier times coefficient"
 abbrev pub linkPart : Job → (y : ℕ → ℤ) → (i : ℕ) → ℤ

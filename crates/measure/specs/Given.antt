@@ -10,7 +10,7 @@ use lib.Signed.{_≤ℤ_}
 use Rattle.jobs.specs.Words.{wordAt, countAt, cellsOf, linksOf, jobOf}
 use Rattle.jobs.specs.Allowed.{Upto, Allowed, Laid, Proposed}
 use Rattle.measure.specs.Running.{runOf}
-use Rattle.measure.specs.OnWords.{inBoxOn, holdsOn, differenceOn, linkPartOn, linkTermOn}
+use Rattle.measure.specs.OnWords.{inBoxOn, holdsOn, roughOn, slopeOn, linkPartOn, linkTermOn}
 
 -- The words of a job, and those of a proposal for it.
 pub record Given (ws ps : List ℤ) : Type 0 where
@@ -44,19 +44,47 @@ pub record Gathers (row : List ℤ) (z stride count : ℕ) (d : List ℤ) : Type
   pub near : stride ≤ 120
   pub differences : Differences count d
 
--- The parts of a loss.
-pub record LossParts (fit k rough : ℤ) : Type 0 where
-  pub fit-small : natAbs fit ≤ 120000000000000000
-  pub k-small : natAbs k ≤ 1000
-  pub rough-small : natAbs rough ≤ 7424000000000000
+-- One direction of smoothing over n rates: differences of order z with a stride, along rows of `width` cells, with the constant k. The list s has what the
+-- cells got back so far.
+pub record Smooths (v : List ℤ) (n z stride width : ℕ) (k : ℤ) (s : List ℤ) : Type 0 where
+  pub order-some : 1 ≤ z
+  pub order-few : z ≤ 4
+  pub stride-some : 1 ≤ stride
+  pub width-some : 1 ≤ width
+  pub cells-few : n ≤ 120
+  pub reach : z * stride < n
+  pub inside : n ≤ length v
+  pub rates : (i : ℕ) → i < n → Upto 1000000 (wordAt v i)
+  pub constant : natAbs k ≤ 1000
+  pub room : n ≤ length s
+  pub small : (i : ℕ) → i < n → natAbs (wordAt s i) ≤ 128000000000
 
--- A job and a proposal with n cells and order z, and the list d of the table's differences.
-pub record Measured (ws ps : List ℤ) (n z : ℕ) (d : List ℤ) : Type 0 where
+-- A row, differences from which n cells get back, the constant, and what the cells got so far.
+pub record GivesBack (row : List ℤ) (z stride count : ℕ) (d : List ℤ) (n : ℕ) (k : ℤ) (s : List ℤ) : Type 0 where
+  pub gathers : Gathers row z stride count d
+  pub constant : natAbs k ≤ 1000
+  pub room : n ≤ length s
+  pub small : (i : ℕ) → i < n → natAbs (wordAt s i) ≤ 128000000000
+
+-- A job and a proposal with n cells, and a list of zeros for what the cells get back.
+pub record Smoothing (ws ps : List ℤ) (n : ℕ) (s : List ℤ) : Type 0 where
   pub given : Given ws ps
   pub n-is : n ≡ cellsOf ws
-  pub z-is : z ≡ jobOf ws .order
-  pub room : n - z ≤ length d
-  pub at : (i : ℕ) → i < n - z → wordAt d i ≡ differenceOn ws ps i
+  pub room : n ≤ length s
+  pub zeros : (i : ℕ) → wordAt s i ≡ pos 0
+
+-- A job and a proposal with n cells, and the list s of what the cells get back from the table's differences.
+pub record Measured (ws ps : List ℤ) (n : ℕ) (s : List ℤ) : Type 0 where
+  pub given : Given ws ps
+  pub n-is : n ≡ cellsOf ws
+  pub room : n ≤ length s
+  pub at : (i : ℕ) → i < n → wordAt s i ≡ slopeOn ws ps i
+
+-- The same with the roughness of the table, by which its loss is told.
+pub record Losing (ws ps : List ℤ) (n : ℕ) (rough : ℤ) : Type 0 where
+  pub given : Given ws ps
+  pub n-is : n ≡ cellsOf ws
+  pub rough-is : rough ≡ roughOn ws ps
 
 -- A residual with its box and value.
 pub record Boxed (r lo hi v : ℤ) : Type 0 where
@@ -124,17 +152,16 @@ pub record Walking (ws ps : List ℤ) (n : ℕ) (parts : List ℤ) : Type 0 wher
   pub zeros : (i : ℕ) → wordAt parts i ≡ pos 0
 
 -- The numbers of a residual.
-pub record Slopes (w v u k s part : ℤ) : Type 0 where
+pub record Slopes (w v u s part : ℤ) : Type 0 where
   pub w-in : Upto 1000 w
   pub v-in : Upto 1000000 v
   pub u-in : Upto 1000000 u
-  pub k-in : Upto 1000 k
-  pub s-small : natAbs s ≤ 128000000
+  pub s-small : natAbs s ≤ 256000000000
   pub part-small : natAbs part ≤ 6400000000000
 
 -- The cell i, with the link part of its residual, or with its residual.
-pub record ResidualAt (ws ps : List ℤ) (n z : ℕ) (d : List ℤ) (i : ℕ) (part : ℤ) : Type 0 where
-  pub measured : Measured ws ps n z d
+pub record ResidualAt (ws ps : List ℤ) (n : ℕ) (s : List ℤ) (i : ℕ) (part : ℤ) : Type 0 where
+  pub measured : Measured ws ps n s
   pub inside : i < n
   pub part-small : natAbs part ≤ 6400000000000
 
@@ -144,8 +171,8 @@ pub record CellAt (ws ps : List ℤ) (i : ℕ) (r : ℤ) : Type 0 where
   pub r-small : natAbs r ≤ 7000000000000
 
 -- The cells of a table that lies in its boxes, with their link parts and the total of the link terms.
-pub record Totalling (ws ps : List ℤ) (n z : ℕ) (d parts : List ℤ) (start : ℤ) : Type 0 where
-  pub measured : Measured ws ps n z d
+pub record Totalling (ws ps : List ℤ) (n : ℕ) (s parts : List ℤ) (start : ℤ) : Type 0 where
+  pub measured : Measured ws ps n s
   pub room : n ≤ length parts
   pub parts-are : (i : ℕ) → i < n → wordAt parts i ≡ linkPartOn ws ps i
   pub boxes : (i : ℕ) → i < n → inBoxOn ws ps i ≡ true

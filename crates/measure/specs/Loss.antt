@@ -1,22 +1,46 @@
--- Document 01, "Loss and gap": the differences of a table v, and its loss.
-use Prim.Native.Nat.{ℕ, _-_}
-use lib.IntN.{ℤ, _+ℤ_, _-ℤ_, _*ℤ_}
+-- Document 01, "Loss and gap": the differences of a table v, and its loss; W-205: a grid's differences in both directions.
+use Prim.Native.Nat.{ℕ, _+_, _-_, _*_, _%_}
+use lib.Dec.{ltb}
+use lib.IntN.{ℤ, pos, _+ℤ_, _-ℤ_, _*ℤ_}
+use Rattle.numbers.specs.Choice.{if_then_else_}
 use Rattle.whole.specs.Sum.{sum}
 use Rattle.certificate.specs.Problem.{squared}
-use Rattle.certificate.specs.Differences.{Family, along, difference}
+use Rattle.certificate.specs.Differences.{Family, along, formAt, difference}
 use Rattle.jobs.specs.Job.{Job}
 use Rattle.rows.specs.Rows.{rowOf}
 
--- "D at i, for i from 0 to n-z-1, is the sum over m = 0..z of s(m) times v(i+m)": D at i is `difference (familyOf j) v i`.
-abbrev pub familyOf : Job → Family
-familyOf j = along (rowOf (j .order)) (j .order) 1 (j .cells - j .order)
+-- Differences of an order over n cells, as many as lie inside: the one numbered f starts at the cell f, and its cells stand `stride` apart.
+abbrev pub familyWith : (order stride n : ℕ) → Family
+familyWith order stride n = along (rowOf order) order stride (n - order * stride)
 
--- "Loss F = sum of w(v-u)^2 + k times the sum of D^2"
+-- "D at i, for i from 0 to n-z-1, is the sum over m = 0..z of s(m) times v(i+m)": D at i is `difference (familyOf j) v i`. W-205: "differences down the
+-- columns"; cells run along a row first, so those of a column stand `columns` apart, and in a job that is no grid 1 apart.
+abbrev pub familyOf : Job → Family
+familyOf j = familyWith (j .order) (j .columns) (j .cells)
+
+-- "those along the rows": the difference that starts at a cell, if it lies in one row of `width` cells; 0 where it would run over the row's end.
+abbrev pub rowedForm : (row : ℕ → ℤ) (order stride width start : ℕ) → (v : ℕ → ℤ) → ℤ
+rowedForm row order stride width start v = if ltb (start % width + order * stride) width then formAt row order stride start v else pos 0
+
+abbrev pub rowed : (width : ℕ) → Family → (v : ℕ → ℤ) → (f : ℕ) → ℤ
+rowed width F v f = rowedForm (F .row) (F .order) (F .stride) width (F .start f) v
+
+abbrev pub familyAcross : Job → Family
+familyAcross j = familyWith (j .across) 1 (j .cells)
+
+abbrev pub acrossAt : Job → (v : ℕ → ℤ) → (f : ℕ) → ℤ
+acrossAt j v f = rowed (j .columns) (familyAcross j) v f
+
+-- "Loss F = sum of w(v-u)^2 + k times the sum of D^2"; W-205: "The loss adds k times the squared differences down the columns and the second constant
+-- times those along the rows". The second constant of a job that is no grid is 0.
 abbrev pub fitOf : Job → (v : ℕ → ℤ) → ℤ
 fitOf j v = sum (j .cells) (λ i. j .weight i *ℤ squared (v i -ℤ j .crude i))
 
-abbrev pub roughness : Family → (v : ℕ → ℤ) → ℤ
-roughness F v = sum (F .count) (λ i. squared (difference F v i))
+abbrev pub roughness : Family → (D : ℕ → ℤ) → ℤ
+roughness F D = sum (F .count) (λ f. squared (D f))
+
+abbrev pub roughOf : Job → (v : ℕ → ℤ) → ℤ
+roughOf j v = j .constant *ℤ roughness (familyOf j) (difference (familyOf j) v) +ℤ j .second *ℤ roughness (familyAcross j) (acrossAt j v)
 
 unfoldable pub lossOf : Job → (v : ℕ → ℤ) → ℤ
-lossOf j v = fitOf j v +ℤ j .constant *ℤ roughness (familyOf j) v
+lossOf j v = fitOf j v +ℤ roughOf j v

@@ -5,12 +5,11 @@ use mathlib.Core.List.{List}
 use lib.IntN.{ℤ, pos, _+ℤ_, _-ℤ_, _*ℤ_}
 use Rattle.certificate.specs.Problem.{squared}
 use Rattle.certificate.specs.Terms.{cellTerm}
-use Rattle.certificate.specs.Differences.{difference}
 use Rattle.jobs.specs.Words.{cellsOf, jobOf}
 use Rattle.measure.specs.declared.check.Verdict.{Verdict}
 use Rattle.measure.specs.declared.links.Walked.{Walked}
-use Rattle.measure.specs.Loss.{familyOf, fitOf, lossOf}
-use Rattle.measure.specs.Gap.{limit, smoothPart, linkPart, residualOf, cellTermOf, linkTermOf, gapOf}
+use Rattle.measure.specs.Loss.{fitOf, roughOf, lossOf}
+use Rattle.measure.specs.Gap.{limit, slopeOf, smoothPart, linkPart, residualOf, cellTermOf, linkTermOf, gapOf}
 use Rattle.measure.specs.Check.{inBox, holds, valuesOf, multipliersOf, judgedOf, verdictOf}
 use Rattle.measure.specs.Running.{heldLinks, partsOf, walkOf}
 
@@ -23,9 +22,6 @@ inBoxOn ws ps i = inBox (jobOf ws) (valuesOf ps) i
 abbrev pub holdsOn : (ws ps : List ℤ) → (l : ℕ) → Bool
 holdsOn ws ps l = holds (jobOf ws) (valuesOf ps) l
 
-abbrev pub differenceOn : (ws ps : List ℤ) → (i : ℕ) → ℤ
-differenceOn ws ps i = difference (familyOf (jobOf ws)) (valuesOf ps) i
-
 abbrev pub fitTermOn : (ws ps : List ℤ) → (i : ℕ) → ℤ
 fitTermOn ws ps i = jobOf ws .weight i *ℤ squared (valuesOf ps i -ℤ jobOf ws .crude i)
 
@@ -34,6 +30,12 @@ fitOn ws ps = fitOf (jobOf ws) (valuesOf ps)
 
 abbrev pub lossOn : (ws ps : List ℤ) → ℤ
 lossOn ws ps = lossOf (jobOf ws) (valuesOf ps)
+
+abbrev pub roughOn : (ws ps : List ℤ) → ℤ
+roughOn ws ps = roughOf (jobOf ws) (valuesOf ps)
+
+abbrev pub slopeOn : (ws ps : List ℤ) → (i : ℕ) → ℤ
+slopeOn ws ps i = slopeOf (jobOf ws) (valuesOf ps) i
 
 abbrev pub smoothOn : (ws ps : List ℤ) → (i : ℕ) → ℤ
 smoothOn ws ps i = smoothPart (jobOf ws) (valuesOf ps) i

@@ -5,6 +5,7 @@ use crate::gap;
 use crate::links;
 use crate::links::Walked;
 use crate::loss;
+use crate::smooth;
 use fields::Field;
 use jobs::job::JOB_WORDS;
 use jobs::proposal::PROPOSAL_WORDS;
@@ -34,14 +35,12 @@ fn judged(words: &[i64], proposal: &[i64], n: usize, total: i64, parts: &[i64]) 
     requires { ⌜ Judging (now words) (now proposal) n total (now parts) ⌝ }
     ensures { λ a. ⌜ a ≡ judgedOn (now (words .entry)) (now (proposal .entry)) ⌝ }
 {
-    let mut d = [0i64; 120];
-    let z = words::order_of(words);
-    let row = rows::row_of(z);
-    loss::differences(proposal, &row, z, 1, n - z, &mut d);
-    let g = gap::total_of(words, proposal, n, z, &row, &d, parts, total);
+    let mut s = [0i64; 120];
+    let rough = smooth::smoothed(words, proposal, n, &mut s);
+    let g = gap::total_of(words, proposal, n, &s, parts, total);
     let t = words::tolerance_of(words);
     if g <= t {
-        let f = loss::loss(words, proposal, n, z, &d);
+        let f = loss::loss(words, proposal, n, rough);
         return Verdict::Accepted { loss: f, gap: g };
     }
     Verdict::Refused {

@@ -1,14 +1,12 @@
 // Differences and loss (document 01, "Loss and gap"). A table is given by its values, the first words of a proposal.
 ghost use mathlib.Core.Path.{_≡_};
-ghost use Prim.Native.Nat.{ℕ, _+_, _*_, _≤_, _<_};
-ghost use lib.IntN.{_+ℤ_, _*ℤ_};
-ghost use lib.ListN.{length};
+ghost use Prim.Native.Nat.{_+_, _*_, _≤_, _<_};
+ghost use lib.IntN.{_*ℤ_};
 ghost use Rattle.whole.specs.Sum.{sum};
 ghost use Rattle.certificate.specs.Problem.{squared};
 ghost use Rattle.certificate.specs.Differences.{formAt};
 ghost use Rattle.jobs.specs.Words.{wordAt, cellsOf};
-ghost use Rattle.measure.specs.Given.{Given, Differs, Difference, Differences, LossParts, Measured};
-ghost use Rattle.measure.specs.Running.{Filled};
+ghost use Rattle.measure.specs.Given.{Given, Differs, Difference, Differences, Losing};
 ghost use Rattle.measure.specs.OnWords.{fitTermOn, fitOn, lossOn};
 use jobs::words;
 
@@ -42,33 +40,15 @@ pub fn difference_at(values: &[i64], row: &[i64; 5], z: usize, stride: usize, i:
     total
 }
 
-// The first `count` differences, each computed once, at the head of `out`.
-pub fn differences(
-    values: &[i64],
-    row: &[i64; 5],
-    z: usize,
-    stride: usize,
-    count: usize,
-    out: &mut [i64],
-)
-    requires { ⌜ ((i : ℕ) → i < count → Differs (now row) z stride i (now values)) × (count ≤ length (now out)) ⌝ }
-    ensures { λ _. ⌜ Filled count (λ i. formAt (wordAt (now (row .entry))) z stride i (wordAt (now (values .entry)))) (now (out .entry)) (now (out .exit)) ⌝ }
-{
-    let mut i: usize = 0;
-    while i < count {
-        out[i] = difference_at(values, row, z, stride, i);
-        i += 1;
-    }
-}
-
 // w(v - u)² of the cell i.
 fn fit_term(words: &[i64], values: &[i64], i: usize) -> i64
     requires { ⌜ Given (now words) (now values) × (i < cellsOf (now words)) ⌝ }
     ensures { λ r. ⌜ r ≡ fitTermOn (now (words .entry)) (now (values .entry)) i ⌝ }
 {
-    let base = 4 * i;
-    let d = values[i] - words[6 + base];
-    words[7 + base] * (d * d)
+    let u = words::crude_at(words, i);
+    let w = words::weight_at(words, i);
+    let d = values[i] - u;
+    w * (d * d)
 }
 
 // The first part of the loss, over all n cells.
@@ -93,7 +73,7 @@ fn square_of(d: i64) -> i64
 }
 
 // The sum of the squares of the first `count` differences.
-fn roughness_of(d: &[i64], count: usize) -> i64
+pub fn roughness_of(d: &[i64], count: usize) -> i64
     requires { ⌜ Differences count (now d) ⌝ }
     ensures { λ r. ⌜ r ≡ sum count (λ i. squared (wordAt (now (d .entry)) i)) ⌝ }
 {
@@ -106,21 +86,11 @@ fn roughness_of(d: &[i64], count: usize) -> i64
     total
 }
 
-// k times the roughness, on the fit.
-fn joined(fit: i64, k: i64, rough: i64) -> i64
-    requires { ⌜ LossParts fit k rough ⌝ }
-    ensures { λ r. ⌜ r ≡ fit +ℤ k *ℤ rough ⌝ }
-{
-    fit + k * rough
-}
-
-// F, from the differences d.
-pub fn loss(words: &[i64], values: &[i64], n: usize, z: usize, d: &[i64]) -> i64
-    requires { ⌜ Measured (now words) (now values) n z (now d) ⌝ }
+// F, from the roughness of the table.
+pub fn loss(words: &[i64], values: &[i64], n: usize, rough: i64) -> i64
+    requires { ⌜ Losing (now words) (now values) n rough ⌝ }
     ensures { λ r. ⌜ r ≡ lossOn (now (words .entry)) (now (values .entry)) ⌝ }
 {
-    let k = words::constant_of(words);
-    let rough = roughness_of(d, n - z);
     let part = fit(words, values, n);
-    joined(part, k, rough)
+    part + rough
 }

@@ -4,7 +4,6 @@ ghost use Prim.Native.Nat.{_*_, _≤_};
 ghost use lib.IntN.{pos, _+ℤ_, _-ℤ_, _*ℤ_};
 ghost use Rattle.certificate.specs.Differences.{along, earlier, gathered};
 ghost use Rattle.jobs.specs.Words.{wordAt};
-ghost use Rattle.rows.specs.Rows.{IsRow};
 ghost use Rattle.measure.specs.Given.{Differences, Gathers, Slopes, ResidualAt};
 ghost use Rattle.measure.specs.OnWords.{residualWith};
 use jobs::words;
@@ -41,7 +40,14 @@ fn gathered_term(
 }
 
 // The sum, over every difference that uses the cell i, of the difference times that cell's coefficient; of any row, order and stride.
-fn gathered_at(d: &[i64], row: &[i64; 5], count: usize, z: usize, stride: usize, i: usize) -> i64
+pub fn gathered_at(
+    d: &[i64],
+    row: &[i64; 5],
+    count: usize,
+    z: usize,
+    stride: usize,
+    i: usize,
+) -> i64
     requires { ⌜ Gathers (now row) z stride count (now d) ⌝ }
     ensures { λ r. ⌜ r ≡ gathered (along (wordAt (now (row .entry))) z stride count) (wordAt (now (d .entry))) i ⌝ }
 {
@@ -54,30 +60,20 @@ fn gathered_at(d: &[i64], row: &[i64; 5], count: usize, z: usize, stride: usize,
     total
 }
 
-// 2w(v - u) + 2ks + part
-fn residual_from(w: i64, v: i64, u: i64, k: i64, s: i64, part: i64) -> i64
-    requires { ⌜ Slopes w v u k s part ⌝ }
-    ensures { λ r. ⌜ r ≡ pos 2 *ℤ w *ℤ (v -ℤ u) +ℤ pos 2 *ℤ k *ℤ s +ℤ part ⌝ }
+// 2w(v - u) + 2s + part
+fn residual_from(w: i64, v: i64, u: i64, s: i64, part: i64) -> i64
+    requires { ⌜ Slopes w v u s part ⌝ }
+    ensures { λ r. ⌜ r ≡ pos 2 *ℤ w *ℤ (v -ℤ u) +ℤ pos 2 *ℤ s +ℤ part ⌝ }
 {
-    2 * w * (v - u) + 2 * k * s + part
+    2 * w * (v - u) + 2 * s + part
 }
 
-// The residual of the cell i, whose link part is `part`, from the differences d.
-pub fn residual_at(
-    words: &[i64],
-    values: &[i64],
-    n: usize,
-    z: usize,
-    row: &[i64; 5],
-    d: &[i64],
-    i: usize,
-    part: i64,
-) -> i64
-    requires { ⌜ ResidualAt (now words) (now values) n z (now d) i part × IsRow z (now row) ⌝ }
+// The residual of the cell i, whose link part is `part`, from the list s of what the cells get back from the differences.
+pub fn residual_at(words: &[i64], values: &[i64], n: usize, s: &[i64], i: usize, part: i64) -> i64
+    requires { ⌜ ResidualAt (now words) (now values) n (now s) i part ⌝ }
     ensures { λ r. ⌜ r ≡ residualWith (now (words .entry)) (now (values .entry)) i part ⌝ }
 {
-    let k = words::constant_of(words);
-    let s = gathered_at(d, row, n - z, z, 1, i);
-    let base = 4 * i;
-    residual_from(words[7 + base], values[i], words[6 + base], k, s, part)
+    let w = words::weight_at(words, i);
+    let u = words::crude_at(words, i);
+    residual_from(w, values[i], u, s[i], part)
 }

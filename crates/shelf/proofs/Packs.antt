@@ -37,7 +37,7 @@ kept-by words loss gap s j p q vs us r shelf ys e =
 
 -- ---- two packs that the check has accepted
 module _ (job proposal : List ℕ) (F G : ℤ) (e : checkOf job proposal ≡ Accepted F G)
-    (scratch : List ℤ) (stored : scratch ≡ sets (replicate 2087 (pos 0)) 0 (readJob job .words))
+    (scratch : List ℤ) (stored : scratch ≡ sets (replicate 2092 (pos 0)) 0 (readJob job .words))
     (rates : List ℤ) (read : rates ≡ sets (replicate 280 (pos 0)) 0 (proposalWords job proposal)) where
   abbrev ws : List ℤ
   ws = readJob job .words
@@ -49,11 +49,11 @@ module _ (job proposal : List ℕ) (F G : ℤ) (e : checkOf job proposal ≡ Acc
   packed : Packed job proposal
   packed = accepted-read job proposal (ap accepted e)
 
-  few : length ws ≤ 2087
+  few : length ws ≤ 2092
   few = read-words-few job (packed .job-done .0) (packed .job-done .1)
 
   same-count : (i : ℕ) → countAt scratch i ≡ countAt ws i
-  same-count i = ap (λ (z : ℤ). natAbs z) (same-word 2087 ws few scratch stored i)
+  same-count i = ap (λ (z : ℤ). natAbs z) (same-word 2092 ws few scratch stored i)
 
   over : rates ≡ sets (replicate 280 (pos 0)) 0 numbers
   over = read ∙ ap (λ (o : Outcome). sets (replicate 280 (pos 0)) 0 (ifRead o numbers)) (packed .job-done .1)
@@ -67,11 +67,10 @@ module _ (job proposal : List ℕ) (F G : ℤ) (e : checkOf job proposal ≡ Acc
       let P = packed .proposed in
       record {
         job = record {
-          room = scratch-length 2087 ws few scratch stored;
+          room = scratch-length 2092 ws few scratch stored;
           society = omega (arith, same-count 0, A .society);
           number = omega (arith, same-count 1, A .number);
           cells = omega (arith, same-count 2, A .cells-few);
-          links = omega (arith, same-count (6 + 4 * cellsOf scratch) ∙ ap (λ (n : ℕ). countAt ws (6 + 4 * n)) (same-count 2), A .links-few);
         };
         values = subst (λ (n : ℕ). Rates n rates) (sym (same-count 2)) (record {
           few = A .cells-few;

@@ -4,17 +4,16 @@ use mathlib.Core.Path.{_≡_}
 use mathlib.Core.List.{List, map}
 use lib.IntN.{ℤ, natAbs}
 use lib.ListN.{length, take}
-use Rattle.jobs.specs.Words.{wordAt, countAt, cellsOf, linksOf}
+use Rattle.jobs.specs.Words.{wordAt, countAt, cellsOf}
 use Rattle.shelf.specs.Slots.{slotOf, keptIn}
 use Rattle.shelf.specs.Shelf.{base, onSociety}
 
--- A job's words, with zeros after them up to 2,087.
+-- A job's words, with zeros after them up to 2,092.
 pub record JobWords (words : List ℤ) : Type 0 where
-  pub room : length words ≡ 2087
+  pub room : length words ≡ 2092
   pub society : countAt words 0 ≤ 7
   pub number : countAt words 1 ≤ 4294967295
   pub cells : cellsOf words ≤ 120
-  pub links : linksOf words ≤ 160
 
 -- The numbers of a proposal, of which the first n are values.
 pub record Rates (n : ℕ) (rates : List ℤ) : Type 0 where

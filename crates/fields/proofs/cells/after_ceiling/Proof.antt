@@ -13,8 +13,8 @@ returns c = simp (lt-ltb _ _ (c .if1 .taken))
 has-more-requires : tie.Need-has-more-requires
 has-more-requires c κs = search needs
 
-add-t9 : tie.Need-add-t9
-add-t9 c = omega (arith, ltb-true (c .before .before .before .args .c .cell + 1) (c .before .before .before .args .c .n) (sym (c .before .has-more .ensures) ∙ c .if2 .taken))
+add-t13 : tie.Need-add-t13
+add-t13 c = omega (arith, ltb-true (c .before .before .before .args .c .cell + 1) (c .before .before .before .args .c .n) (sym (c .before .has-more .ensures) ∙ c .if2 .taken))
 
 returns-2 : tie.Need-returns-2
 returns-2 c = rw (le-ltb _ _ (c .before .before .if1 .left), ← c .before .has-more .ensures, c .if2 .taken)
@@ -27,4 +27,4 @@ returns-4 c = rw (le-ltb _ _ (c .before .before .before .if1 .left), ← c .befo
 
 pub after-ceiling-spec : {M : Type 1} → statement M
 after-ceiling-spec =
-    tie.close (tie.spec returns has-more-requires add-t9 returns-2 returns-3 returns-4)
+    tie.close (tie.spec returns has-more-requires add-t13 returns-2 returns-3 returns-4)

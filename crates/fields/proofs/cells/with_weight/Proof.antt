@@ -1,21 +1,31 @@
--- Where no weight is wanted any more, one less is as many.
-use Rattle.fields.proofs.Tests.{no-less}
-use borrow.Author.Tests.{lt-ltb, le-ltb}
+-- The test for another cell of the row is the one that `weighed` makes.
+use mathlib.Core.Path.{sym, _∙_}
+use Prim.Native.Nat.{_+_}
+use native.Mathlib.Omega.{arith}
+use borrow.Author.Tests.{ltb-true}
 use borrow.Author.Needs.{needs}
 use Rattle.fields.proofs.cells.with_weight.Statement.{statement}
 use Rattle.fields.proofs.cells.with_weight.Tie as tie
 
-sub-d : tie.Need-sub-d
-sub-d c = search needs
+lacks-requires : tie.Need-lacks-requires
+lacks-requires c κs = search needs
+
+has-more-requires : tie.Need-has-more-requires
+has-more-requires c κs = search needs
+
+add-t11 : tie.Need-add-t11
+add-t11 c = omega (arith, ltb-true (c .before .before .before .args .c .column + 1) (c .before .before .before .args .c .columns) (sym (c .before .has-more .ensures) ∙ c .if1 .taken))
 
 returns : tie.Need-returns
-returns c = simp (lt-ltb _ _ (c .before .if1 .taken))
+returns c = rw (← c .before .has-more .ensures, c .if1 .taken, ← c .before .before .lacks .ensures)
+
+next-row-requires : tie.Need-next-row-requires
+next-row-requires c κs = search needs
 
 returns-2 : tie.Need-returns-2
-returns-2 c = simp (lt-ltb _ _ (c .before .if1 .taken)) (no-less (c .before .before .args .c) (c .if2 .left))
-
-returns-3 : tie.Need-returns-3
-returns-3 c = simp (le-ltb _ _ (c .if1 .left))
+returns-2 c = rw (← c .before .before .has-more .ensures, c .before .if1 .left, ← c .before .before .before .lacks .ensures) (c .next-row .ensures)
 
 pub with-weight-spec : {M : Type 1} → statement M
-with-weight-spec = tie.close (tie.spec sub-d returns returns-2 returns-3)
+with-weight-spec =
+    tie.close
+    (tie.spec lacks-requires has-more-requires add-t11 returns next-row-requires returns-2)

@@ -1,23 +1,23 @@
 -- After i turns the places below i hold their rows.
 use mathlib.Core.Path.{_≡_, sym, ap, ap₂, _∙_}
 use Prim.Native.Nat.{ℕ, _+_, _-_, _*_, _≤_, _<_}
+use native.Mathlib.Nat as N
 use native.Mathlib.Omega.{arith}
 use mathlib.Core.List.{List}
-use lib.Dec.{lit<}
 use lib.IntN.{ℤ}
 use lib.ListN.{set, replicate}
 use lib.Ieee.{Float, ofBits}
-use Rattle.jobs.specs.Words.{wordAt, cellsOf}
+use Rattle.jobs.specs.Words.{cellsOf, jobOf}
 use Rattle.house.specs.Filled.{filled}
 use Rattle.house.specs.Band.{entriesOf, zero64}
 use Rattle.house.proofs.Fills.{filled-more, filled-done}
-use Rattle.house.proofs.Told.{cells-few, order-few, inside, weight-small, constant-small, word-is}
+use Rattle.house.proofs.Told.{cells-few, order-few, weight-is, weight-small, constant-is, constant-small}
 use borrow.Author.Needs.{needs}
 use Rattle.house.proofs.band.band.Statement.{statement}
 use Rattle.house.proofs.band.band.Tie as tie
 
 abbrev lines : List ℤ → (n z : ℕ) → ℕ → List Float
-lines ws n z i = entriesOf (wordAt ws (7 + 4 * i)) (wordAt ws 4) n z i
+lines ws n z i = entriesOf (jobOf ws .weight i) (jobOf ws .constant) n z i
 
 abbrev Inv-loop : tie.InvT-loop
 Inv-loop words n z row made₀ i₀ made i = (i ≤ n) × (filled (lines words n z) (n - i) i made ≡ filled (lines words n z) n 0 made₀)
@@ -34,31 +34,23 @@ loop-holds c =
     let e : a .n - 0 ≡ a .n = omega arith in
     (omega arith, rw e)
 
-mul-base : tie.Need-mul-base Inv-loop μ-loop
-mul-base c = let few = cells-few (c .before .before .before .pre .0) in search needs
+weight-at-requires : tie.Need-weight-at-requires Inv-loop μ-loop
+weight-at-requires c κs = let s = c .before .before .before in (s .pre .0 .allowed, (s .pre .0 .laid, omega (arith, s .pre .1)))
 
-add-at : tie.Need-add-at Inv-loop μ-loop
-add-at c = let few = cells-few (c .before .before .before .pre .0) in search needs
-
-mul-entries-of : tie.Need-mul-entries-of Inv-loop μ-loop
-mul-entries-of c = let few = cells-few (c .before .before .before .before .pre .0) in search needs
-
-shared-slice-copy-out-entries-of : tie.Need-shared-slice-copy-out-entries-of Inv-loop μ-loop
-shared-slice-copy-out-entries-of c = omega (arith, inside (c .before .before .before .before .pre .0), c .before .before .before .before .pre .1)
-
-shared-slice-copy-out-entries-of-2 : tie.Need-shared-slice-copy-out-entries-of-2 Inv-loop μ-loop
-shared-slice-copy-out-entries-of-2 c = omega (arith, inside (c .before .before .before .before .before .pre .0))
+constant-of-requires : tie.Need-constant-of-requires Inv-loop μ-loop
+constant-of-requires c κs = let s = c .before .before .before .before in (s .pre .0 .allowed, s .pre .0 .laid)
 
 entries-of-requires : tie.Need-entries-of-requires Inv-loop μ-loop
 entries-of-requires c κs =
-    let head = c .before .before .before .before in
+    let w = c .before .before in
+    let head = w .before .before in
     let s = head .before .before in
     let k = s .pre .0 in
     let ws = s .args .words .now in
     let i = head .loop .i in
     let h : i < cellsOf ws = omega (arith, s .pre .1) in
-    rw (word-is (wordAt ws (7 + 4 * i)) (weight-small k h) (lit< tt), word-is (wordAt ws 4) (constant-small k) (lit< tt))
-    (weight-small k h, constant-small k, omega (arith, cells-few k, s .pre .1), omega (arith, order-few k, s .pre .2), omega arith, head .before .row-of .ensures)
+    rw (weight-is k h (w .weight-at .ensures), constant-is k (c .before .constant-of .ensures))
+    (N.le-trans (weight-small k h) (omega arith), constant-small k, omega (arith, cells-few k, s .pre .1), omega (arith, order-few k, s .pre .2), omega arith, head .before .row-of .ensures)
 
 mul-made : tie.Need-mul-made Inv-loop μ-loop
 mul-made c = let few = cells-few (c .before .before .before .before .before .before .before .pre .0) in search needs
@@ -82,7 +74,7 @@ loop-again c =
     let made = head .loop .made in
     let h : i < cellsOf ws = omega (arith, s .pre .1) in
     let e : c .entries-of .result ≡ lines ws (s .args .n) (s .args .z) i =
-    c .entries-of .ensures ∙ ap₂ (λ (w k : ℤ). entriesOf w k (s .args .n) (s .args .z) i) (word-is (wordAt ws (7 + 4 * i)) (weight-small k h) (lit< tt)) (word-is (wordAt ws 4) (constant-small k) (lit< tt)) in (
+    c .entries-of .ensures ∙ ap₂ (λ (w k : ℤ). entriesOf w k (s .args .n) (s .args .z) i) (weight-is k h (c .before .before .before .weight-at .ensures)) (constant-is k (c .before .before .constant-of .ensures)) in (
       omega arith,
       ap (λ (x : List Float). filled (lines ws (s .args .n) (s .args .z)) (s .args .n - (i + 1)) (i + 1) (set made i x)) e
           ∙ sym (filled-more (lines ws (s .args .n) (s .args .z)) i (s .args .n) made (omega arith)) ∙ head .loop .inv .1,
@@ -105,11 +97,8 @@ band-spec =
     μ-loop
     row-of-requires
     loop-holds
-    mul-base
-    add-at
-    mul-entries-of
-    shared-slice-copy-out-entries-of
-    shared-slice-copy-out-entries-of-2
+    weight-at-requires
+    constant-of-requires
     entries-of-requires
     mul-made
     array-set-from-made

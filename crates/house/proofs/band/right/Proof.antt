@@ -6,18 +6,17 @@ use mathlib.Core.List.{List}
 use lib.IntN.{ℤ, _*ℤ_}
 use lib.ListN.{set, replicate}
 use lib.Ieee.{Float, binary64, ofInt, ofBits}
-use Rattle.jobs.specs.Words.{wordAt, cellsOf}
+use Rattle.jobs.specs.Words.{cellsOf, jobOf}
 use Rattle.house.specs.Filled.{filled}
 use Rattle.house.specs.Band.{zero64}
 use Rattle.house.proofs.Fills.{filled-more, filled-done}
-use Rattle.house.proofs.Told.{cells-few, inside, crude-small, weight-small, word-is}
-use lib.Dec.{lit<}
+use Rattle.house.proofs.Told.{cells-few, crude-is, crude-small, weight-is, weight-small}
 use borrow.Author.Needs.{needs}
 use Rattle.house.proofs.band.right.Statement.{statement}
 use Rattle.house.proofs.band.right.Tie as tie
 
 abbrev products : List ℤ → ℕ → Float
-products ws i = ofInt binary64 (wordAt ws (7 + 4 * i) *ℤ wordAt ws (6 + 4 * i))
+products ws i = ofInt binary64 (jobOf ws .weight i *ℤ jobOf ws .crude i)
 
 abbrev Inv-loop : tie.InvT-loop
 Inv-loop words n made₀ i₀ made i = (i ≤ n) × (filled (products words) (n - i) i made ≡ filled (products words) n 0 made₀)
@@ -30,35 +29,21 @@ loop-holds c =
     let e : c .args .n - 0 ≡ c .args .n = omega arith in
     (omega arith, rw e)
 
-mul-base : tie.Need-mul-base Inv-loop μ-loop
-mul-base c = let few = cells-few (c .before .before .pre .0) in search needs
+weight-at-requires : tie.Need-weight-at-requires Inv-loop μ-loop
+weight-at-requires c κs = let s = c .before .before in (s .pre .0 .allowed, (s .pre .0 .laid, omega (arith, s .pre .1)))
 
-add-at : tie.Need-add-at Inv-loop μ-loop
-add-at c = let few = cells-few (c .before .before .pre .0) in search needs
-
-add-next : tie.Need-add-next Inv-loop μ-loop
-add-next c = let few = cells-few (c .before .before .pre .0) in search needs
-
-mul-right-at : tie.Need-mul-right-at Inv-loop μ-loop
-mul-right-at c = let few = cells-few (c .before .before .pre .0) in search needs
-
-shared-slice-copy-out-right-at : tie.Need-shared-slice-copy-out-right-at Inv-loop μ-loop
-shared-slice-copy-out-right-at c = omega (arith, inside (c .before .before .pre .0), c .before .before .pre .1)
-
-mul-right-at-2 : tie.Need-mul-right-at-2 Inv-loop μ-loop
-mul-right-at-2 c = let few = cells-few (c .before .before .before .pre .0) in search needs
-
-shared-slice-copy-out-right-at-2 : tie.Need-shared-slice-copy-out-right-at-2 Inv-loop μ-loop
-shared-slice-copy-out-right-at-2 c = omega (arith, inside (c .before .before .before .pre .0), c .before .before .before .pre .1)
+crude-at-requires : tie.Need-crude-at-requires Inv-loop μ-loop
+crude-at-requires c κs = let s = c .before .before .before in (s .pre .0 .allowed, (s .pre .0 .laid, omega (arith, s .pre .1)))
 
 right-at-requires : tie.Need-right-at-requires Inv-loop μ-loop
 right-at-requires c κs =
-    let head = c .before .before .before in
+    let w = c .before in
+    let head = w .before .before in
     let s = head .before in
     let ws = s .args .words .now in
     let i = head .loop .i in
     let h : i < cellsOf ws = omega (arith, s .pre .1) in
-    rw (word-is (wordAt ws (7 + 4 * i)) (weight-small (s .pre .0) h) (lit< tt), word-is (wordAt ws (6 + 4 * i)) (crude-small (s .pre .0) h) (lit< tt)) (weight-small (s .pre .0) h, crude-small (s .pre .0) h)
+    rw (weight-is (s .pre .0) h (w .weight-at .ensures), crude-is (s .pre .0) h (c .crude-at .ensures)) (weight-small (s .pre .0) h, crude-small (s .pre .0) h)
 
 mul-made : tie.Need-mul-made Inv-loop μ-loop
 mul-made c = let few = cells-few (c .before .before .before .before .before .pre .0) in search needs
@@ -80,7 +65,7 @@ loop-again c =
     let i = head .loop .i in
     let made = head .loop .made in
     let h : i < cellsOf ws = omega (arith, s .pre .1) in
-    let e : c .right-at .result ≡ products ws i = c .right-at .ensures ∙ ap (ofInt binary64) (ap₂ _*ℤ_ (word-is (wordAt ws (7 + 4 * i)) (weight-small (s .pre .0) h) (lit< tt)) (word-is (wordAt ws (6 + 4 * i)) (crude-small (s .pre .0) h) (lit< tt))) in (
+    let e : c .right-at .result ≡ products ws i = c .right-at .ensures ∙ ap (ofInt binary64) (ap₂ _*ℤ_ (weight-is (s .pre .0) h (c .before .before .weight-at .ensures)) (crude-is (s .pre .0) h (c .before .crude-at .ensures))) in (
       omega arith,
       ap (λ (x : Float). filled (products ws) (s .args .n - (i + 1)) (i + 1) (set made i x)) e
           ∙ sym (filled-more (products ws) i (s .args .n) made (omega arith)) ∙ head .loop .inv .1,
@@ -102,13 +87,8 @@ right-spec =
     Inv-loop
     μ-loop
     loop-holds
-    mul-base
-    add-at
-    add-next
-    mul-right-at
-    shared-slice-copy-out-right-at
-    mul-right-at-2
-    shared-slice-copy-out-right-at-2
+    weight-at-requires
+    crude-at-requires
     right-at-requires
     mul-made
     array-write-made

@@ -1,4 +1,4 @@
--- A job that is read has at most 2,087 words, so the scratch holds them all.
+-- A job that is read has at most 2,092 words, so the scratch holds them all.
 use mathlib.Core.Path.{refl, sym, _∙_}
 use denote.Ref.{now}
 use lib.ListN.{length}

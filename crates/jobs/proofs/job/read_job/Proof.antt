@@ -1,4 +1,4 @@
--- A job that is read has at most 2,087 words, so the scratch holds them all and the lender gets them all.
+-- A job that is read has at most 2,092 words, so the scratch holds them all and the lender gets them all.
 use Rattle.jobs.proofs.Handed.{scratch-room, scratch-handed}
 use denote.Ref.{now}
 use lib.ListN.{length}

@@ -1,4 +1,4 @@
--- The numbers that stand for the words are written once they are all there; a job has 2,087 at most, so the scratch holds them.
+-- The numbers that stand for the words are written once they are all there; a job has 2,092 at most, so the scratch holds them.
 use Rattle.jobs.proofs.Handed.{numbers-room, job-written, job-refused}
 use denote.Ref.{now}
 use lib.ListN.{length}

@@ -14,7 +14,7 @@ enum-known-read c = search needs
 
 check-part-requires : tie.Need-check-part-requires
 check-part-requires c κs = let s = c .before .before .before .before .before .before .before .before .before .before in
-    let w : length (s .args .words .now) ≡ 2087 = search needs in
+    let w : length (s .args .words .now) ≡ 2092 = search needs in
     let a = job-asked (s .args .job .now) (s .args .proposal .now) (s .args .words .now) w (c .before .before .before .before .before .before .read .ensures .0) (c .before .before .before .before .before .before .read .ensures .1) (c .before .before .before .before .read2 .given .1) in
     (a .0, a .1, search needs)
 
@@ -23,7 +23,7 @@ enum-known-read-2 c = search needs
 
 returns : tie.Need-returns
 returns c = let s = c .before .before .before .before .before .before .before .before .before .before .before in
-    let w : length (s .args .words .now) ≡ 2087 = search needs in (
+    let w : length (s .args .words .now) ≡ 2092 = search needs in (
       job-answer (s .args .job .now) (s .args .proposal .now) (s .args .words .now) w (c .before .before .before .before .before .before .before .read .ensures .0) (c .before .before .before .before .before .before .before .read .ensures .1) (c .before .before .before .before .before .read2 .given .1) (c .check-part .ensures .0),
       c .before .before .before .before .before .before .before .read .ensures .1,
       job-left (s .args .job .now) (s .args .proposal .now) (s .args .words .now) w (c .before .before .before .before .before .before .before .read .ensures .0) (c .before .before .before .before .before .before .before .read .ensures .1) (c .before .before .before .before .before .read2 .given .1) (s .args .values .now) (c .check-part .ensures .1),
@@ -31,7 +31,7 @@ returns c = let s = c .before .before .before .before .before .before .before .b
 
 returns-2 : tie.Need-returns-2
 returns-2 c = let s = c .before .before .before .before .before .before .before in
-    let w : length (s .args .words .now) ≡ 2087 = search needs in (
+    let w : length (s .args .words .now) ≡ 2092 = search needs in (
       job-refused (s .args .job .now) (s .args .proposal .now) (s .args .words .now) w (c .before .before .before .read .ensures .0) (c .before .before .before .read .ensures .1) (c .before .read3 .given .1),
       c .before .before .before .read .ensures .1,
       refused-left (s .args .job .now) (s .args .proposal .now) (s .args .words .now) w (c .before .before .before .read .ensures .0) (c .before .before .before .read .ensures .1) (c .before .read3 .given .1) (s .args .values .now),

@@ -16,32 +16,32 @@ use Rattle.measure.proofs.gap.total_of.Statement.{statement}
 use Rattle.measure.proofs.gap.total_of.Tie as tie
 
 abbrev Inv-loop : tie.InvT-loop
-Inv-loop words proposal n z row d parts start tolerance total₀ i₀ total i = (i ≤ n) × (Holds tolerance (jobOf words .tolerance) × Holds total (runOf (jobOf words .tolerance) (toZ w64 start) (cellTermOn words proposal) i))
+Inv-loop words proposal n s parts start tolerance total₀ i₀ total i = (i ≤ n) × (Holds tolerance (jobOf words .tolerance) × Holds total (runOf (jobOf words .tolerance) (toZ w64 start) (cellTermOn words proposal) i))
 
 abbrev μ-loop : tie.MeasureT-loop
-μ-loop words proposal n z row d parts start tolerance total₀ i₀ total i = n - i
+μ-loop words proposal n s parts start tolerance total₀ i₀ total i = n - i
 
 tolerance-of-requires : tie.Need-tolerance-of-requires Inv-loop μ-loop
-tolerance-of-requires c κs = (c .pre .0 .measured .given .allowed, c .pre .0 .measured .given .laid)
+tolerance-of-requires c κs = (c .pre .measured .given .allowed, c .pre .measured .given .laid)
 
 loop-holds : tie.Need-loop-holds Inv-loop μ-loop
-loop-holds c = (omega arith, (record { is = gives (c .tolerance-of .ensures) (tolerance-fits (c .before .pre .0 .measured .given .allowed .tolerance)) }, run-begins _ _ _ refl))
+loop-holds c = (omega arith, (record { is = gives (c .tolerance-of .ensures) (tolerance-fits (c .before .pre .measured .given .allowed .tolerance)) }, run-begins _ _ _ refl))
 
 mul-residual-at : tie.Need-mul-residual-at Inv-loop μ-loop
-mul-residual-at c = omega (arith, c .before .before .before .pre .0 .measured .n-is, c .before .before .before .pre .0 .measured .given .allowed .cells-few)
+mul-residual-at c = omega (arith, c .before .before .before .pre .measured .n-is, c .before .before .before .pre .measured .given .allowed .cells-few)
 
 shared-slice-copy-out-residual-at : tie.Need-shared-slice-copy-out-residual-at Inv-loop μ-loop
-shared-slice-copy-out-residual-at c = omega (arith, c .before .before .before .pre .0 .room)
+shared-slice-copy-out-residual-at c = omega (arith, c .before .before .before .pre .room)
 
 residual-at-requires : tie.Need-residual-at-requires Inv-loop μ-loop
-residual-at-requires c κs = (total-residual (c .before .before .before .before .pre .0) _ (omega arith), c .before .before .before .before .pre .1)
+residual-at-requires c κs = total-residual (c .before .before .before .before .pre) _ (omega arith)
 
 cell-term-at-requires : tie.Need-cell-term-at-requires Inv-loop μ-loop
-cell-term-at-requires c κs = total-cell (c .before .before .before .before .before .pre .0) (omega arith) (c .residual-at .ensures)
+cell-term-at-requires c κs = total-cell (c .before .before .before .before .before .pre) (omega arith) (c .residual-at .ensures)
 
 settled-requires : tie.Need-settled-requires Inv-loop μ-loop
 settled-requires c κs = let t = c .before .before .before .before in
-    total-settles (totalling-by (sym (gives refl (t .before .before .fits .start))) (t .before .before .pre .0)) (omega arith) (c .before .residual-at .ensures) (c .cell-term-at .ensures)
+    total-settles (totalling-by (sym (gives refl (t .before .before .fits .start))) (t .before .before .pre)) (omega arith) (c .before .residual-at .ensures) (c .cell-term-at .ensures)
     (t .loop .inv .1 .0) (t .loop .inv .1 .1)
 
 add-i : tie.Need-add-i Inv-loop μ-loop
@@ -55,7 +55,7 @@ loop-again c = let t = c .before .before .before .before .before in (
   omega arith,
   (
     t .loop .inv .1 .0,
-    total-next (totalling-by (sym (gives refl (t .before .before .fits .start))) (t .before .before .pre .0)) (omega arith) (c .before .before .residual-at .ensures) (c .before .cell-term-at .ensures)
+    total-next (totalling-by (sym (gives refl (t .before .before .fits .start))) (t .before .before .pre)) (omega arith) (c .before .before .residual-at .ensures) (c .before .cell-term-at .ensures)
         (t .loop .inv .1 .0) (t .loop .inv .1 .1) (c .settled .ensures),
   ),
 )
@@ -63,7 +63,7 @@ loop-again c = let t = c .before .before .before .before .before in (
 returns : tie.Need-returns Inv-loop μ-loop
 returns c =
     let s = c .before .before .before in
-    rw (gives {x = s .args .start} refl (s .fits .start)) at (total-ends (totalling-by (sym (gives refl (s .fits .start))) (s .pre .0)) (omega arith) (c .before .loop .inv .1 .1))
+    rw (gives {x = s .args .start} refl (s .fits .start)) at (total-ends (totalling-by (sym (gives refl (s .fits .start))) (s .pre)) (omega arith) (c .before .loop .inv .1 .1))
 
 pub total-of-spec : {M : Type 1} → statement M
 total-of-spec =

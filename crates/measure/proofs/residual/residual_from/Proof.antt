@@ -1,6 +1,6 @@
--- Each step by its bound; a residual is at most 6.66·10^12.
+-- Each step by its bound; a residual is at most 6.92·10^12.
 use Rattle.whole.proofs.Fits.{fits-by, gives}
-use Rattle.measure.proofs.Residuals.{all-fits, all-is, both-fits, both-is, far-fits, far-is, fit-fits, fit-is, kk-fits, kk-is, ks-fits, ks-is, ww-fits, ww-is}
+use Rattle.measure.proofs.Residuals.{all-fits, all-is, both-fits, both-is, far-fits, far-is, fit-fits, fit-is, ss-fits, ss-is, ww-fits, ww-is}
 use Rattle.measure.proofs.residual.residual_from.Statement.{statement}
 use Rattle.measure.proofs.residual.residual_from.Tie as tie
 
@@ -14,10 +14,7 @@ mul-result-2 : tie.Need-mul-result-2
 mul-result-2 c = fits-by (fit-is (c .pre)) (fit-fits (c .pre))
 
 mul-result-3 : tie.Need-mul-result-3
-mul-result-3 c = fits-by (kk-is (c .pre)) (kk-fits (c .pre))
-
-mul-result-4 : tie.Need-mul-result-4
-mul-result-4 c = fits-by (ks-is (c .pre)) (ks-fits (c .pre))
+mul-result-3 c = fits-by (ss-is (c .pre)) (ss-fits (c .pre))
 
 add-result : tie.Need-add-result
 add-result c = fits-by (both-is (c .pre)) (both-fits (c .pre))
@@ -31,12 +28,4 @@ returns c = gives (all-is (c .pre)) (all-fits (c .pre))
 pub residual-from-spec : {M : Type 1} → statement M
 residual-from-spec =
     tie.close
-    (tie.spec
-    mul-result
-    sub-result
-    mul-result-2
-    mul-result-3
-    mul-result-4
-    add-result
-    add-result-2
-    returns)
+    (tie.spec mul-result sub-result mul-result-2 mul-result-3 add-result add-result-2 returns)

@@ -21,7 +21,7 @@ enum-known-verdict : tie.Need-enum-known-verdict
 enum-known-verdict c = search needs
 
 slice-aggregate-keep-table : tie.Need-slice-aggregate-keep-table
-slice-aggregate-keep-table c = let a = c .before .before .before .before .before .before .before .before .before .before .before .args in lent-length 2087 (readJob (a .job .now) .words) _ (c .before .before .before .before .before .check-into .ensures .1)
+slice-aggregate-keep-table c = let a = c .before .before .before .before .before .before .before .before .before .before .before .args in lent-length 2092 (readJob (a .job .now) .words) _ (c .before .before .before .before .before .check-into .ensures .1)
 
 slice-aggregate-keep-table-2 : tie.Need-slice-aggregate-keep-table-2
 slice-aggregate-keep-table-2 c = let a = c .before .before .before .before .before .before .before .before .before .before .before .before .args in lent-length 280 (proposalWords (a .job .now) (a .proposal .now)) _ (c .before .before .before .before .before .before .check-into .ensures .2)

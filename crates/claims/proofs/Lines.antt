@@ -1,0 +1,26 @@
+-- A job that is no grid: its differences stand 1 apart, and those across count nothing.
+use Prim.Native.Nat.{ℕ, _-_, _*_}
+use mathlib.Core.Path.{_≡_, refl, sym, ap, ap₂, subst, _∙_}
+use mathlib.Core.Bool.{Bool, true, false}
+use native.Mathlib.Nat as N
+use lib.IntN.{ℤ, pos, _+ℤ_, _*ℤ_, zero-*ℤ, +ℤ-idr}
+use Rattle.whole.specs.Sum.{sum}
+use Rattle.rows.specs.Rows.{rowOf}
+use Rattle.certificate.specs.Problem.{squared}
+use Rattle.certificate.specs.Differences.{difference, formAt}
+use Rattle.jobs.specs.Job.{Job}
+use Rattle.jobs.specs.Allowed.{LineAllowed, ShapeAllowed, Allowed}
+use Rattle.measure.specs.Loss.{familyOf, familyAcross, acrossAt, fitOf, roughness, lossOf}
+use Rattle.claims.specs.Promises.{LineLoss}
+
+pub line-loss : LineLoss
+unfolding lossOf
+line-loss j A e v =
+    let L : LineAllowed j = subst (ShapeAllowed j) e (A .shape) in
+    let one : j .order * j .columns ≡ j .order = ap (λ (c : ℕ). j .order * c) (L .columns-one) ∙ N.mul-one (j .order) in
+    ap (λ (x : ℤ). fitOf j v +ℤ x)
+    (ap₂ _+ℤ_
+    (ap (λ (x : ℤ). j .constant *ℤ x)
+    (ap₂ (λ (reach c : ℕ). sum (j .cells - reach) (λ i. squared (formAt (rowOf (j .order)) (j .order) c i v))) one (L .columns-one)))
+    (ap (λ (s : ℤ). s *ℤ roughness (familyAcross j) (acrossAt j v)) (L .second-none) ∙ zero-*ℤ (roughness (familyAcross j) (acrossAt j v)))
+    ∙ +ℤ-idr (j .constant *ℤ sum (j .cells - j .order) (λ i. squared (formAt (rowOf (j .order)) (j .order) 1 i v))))

@@ -1,0 +1,3 @@
+-- The steps of the house proposal's factor and solve, over any band.
+pub mod Factor
+pub mod Solve

@@ -1,0 +1,18 @@
+-- One word after the count of links.
+use native.Mathlib.Omega.{arith}
+use Rattle.jobs.proofs.Places.{head-few, start-zero}
+use borrow.Author.Needs.{needs}
+use Rattle.jobs.proofs.words.first_link_of.Statement.{statement}
+use Rattle.jobs.proofs.words.first_link_of.Tie as tie
+
+links-at-requires : tie.Need-links-at-requires
+links-at-requires c κs = search needs
+
+add-result : tie.Need-add-result
+add-result c = omega (arith, c .links-at .ensures, head-few (c .before .args .words .now), c .before .pre .0 .cells-few, c .before .pre .1 .1)
+
+returns : tie.Need-returns
+returns c = omega (arith, c .links-at .ensures, start-zero (c .before .args .words .now), c .before .pre .1 .1)
+
+pub first-link-of-spec : {M : Type 1} → statement M
+first-link-of-spec = tie.close (tie.spec links-at-requires add-result returns)

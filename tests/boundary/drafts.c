@@ -2,6 +2,7 @@
  * many tables are near the best one, so that gaps are small and a wrong one shows. */
 #include "drafts.h"
 #include "extremes.h"
+#include "shapes.h"
 
 #include <string.h>
 
@@ -24,11 +25,10 @@ static void draw_header(struct random *r, struct twin_job *job)
     static const int64_t numbers[] = {6, 127, 128, 16384, 4294967295};
     job->society = random_chance(r, 70) ? random_below(r, 2) * 7 : random_below(r, 8);
     job->number = random_chance(r, 80) ? random_below(r, 6) : random_between(r, 0, numbers[random_below(r, 5)]);
-    job->cells = count_of_cells(r);
-    do {
-        job->order_field = random_below(r, 5);
-        job->order = job->order_field == 0 ? 2 : job->order_field;
-    } while (job->order >= job->cells);
+    int64_t cells = count_of_cells(r);
+    do
+        shape_line(job, cells, random_below(r, 5));
+    while (job->down >= cells);
     job->constant = random_chance(r, 50) ? random_between(r, 1, 4) : random_chance(r, 50) ? 1000 : random_between(r, 1, 1000);
     job->tolerance = MOST_TOLERANCE;
     job->links = 0;
@@ -62,14 +62,7 @@ static void draw_cells(struct random *r, struct twin_job *job)
         job->w[i] = random_chance(r, none) ? 0 : random_chance(r, 10) ? most_weight : random_between(r, 1, most_weight);
         draw_box(r, scale, random_chance(r, 10) ? (int)random_below(r, 5) : style, job->u[i], &job->lo[i], &job->hi[i]);
     }
-    int64_t positive = 0;
-    for (int64_t i = 0; i < job->cells; i++)
-        positive += job->w[i] > 0;
-    for (int64_t i = 0; positive < job->order; i++)
-        if (job->w[i] == 0) {
-            job->w[i] = 1;
-            positive++;
-        }
+    shape_add_weights(job);
 }
 
 static void plant_table(struct random *r, struct draft *d)
@@ -210,8 +203,7 @@ void draft_full(struct random *r, int64_t order_field, struct draft *d)
 {
     struct twin_job *job = &d->job;
     draw_header(r, job);
-    job->cells = MOST_CELLS;
-    job->order_field = job->order = order_field;
+    shape_line(job, MOST_CELLS, order_field);
     for (int64_t i = 0; i < job->cells; i++) {
         job->u[i] = random_between(r, 100000, 1000000);
         job->w[i] = random_between(r, 128, 1000);
@@ -235,7 +227,7 @@ static void break_cell(struct random *r, struct draft *d, int way)
     if (way == 0 && job->hi[i] < MOST_VALUE)
         job->lo[i] = random_chance(r, 50) ? job->hi[i] + 1 : random_between(r, job->hi[i] + 1, MOST_VALUE);
     if (way == 1)
-        for (int64_t c = 0, left = random_below(r, job->order); c < job->cells; c++)
+        for (int64_t c = 0, left = random_below(r, job->down); c < job->cells; c++)
             job->w[c] = left > 0 && job->w[c] > 0 ? (left--, job->w[c]) : 0;
     if (way == 2 && job->lo[i] > 0)
         d->table.value[i] = random_chance(r, 50) ? job->lo[i] - 1 : random_below(r, job->lo[i]);

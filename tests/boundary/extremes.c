@@ -1,5 +1,6 @@
 /* See extremes.h. */
 #include "extremes.h"
+#include "shapes.h"
 
 static const int64_t MOST_VALUE = 1000000;
 static const int64_t MOST_BOUND = 1000000000;
@@ -57,8 +58,8 @@ void extreme_gap(struct random *r, struct draft *d)
 void extreme_loss(struct random *r, struct draft *d)
 {
     struct twin_job *job = &d->job;
-    job->cells = random_between(r, 80, 120);
-    job->order_field = job->order = random_between(r, 3, 4);
+    int64_t cells = random_between(r, 80, 120);
+    shape_line(job, cells, random_between(r, 3, 4));
     job->constant = 1000 - random_below(r, 3);
     for (int64_t i = 0; i < job->cells; i++) {
         job->u[i] = random_below(r, 2) * MOST_VALUE;
@@ -72,29 +73,24 @@ void extreme_loss(struct random *r, struct draft *d)
 /* The weights stand in the first cells alone, which makes pivots too small, or far apart: between them a value hangs on differences only. */
 void extreme_pivots(struct random *r, struct twin_job *job)
 {
-    int64_t apart = random_chance(r, 50) ? random_between(r, 8, 40) : MOST_CELLS, positive = 0;
-    job->cells = random_chance(r, 60) ? random_between(r, 60, 120) : random_between(r, 6, 40);
-    job->order_field = job->order = random_chance(r, 60) ? 4 : random_between(r, 1, 4);
+    int64_t apart = random_chance(r, 50) ? random_between(r, 8, 40) : MOST_CELLS;
+    int64_t cells = random_chance(r, 60) ? random_between(r, 60, 120) : random_between(r, 6, 40);
+    shape_line(job, cells, random_chance(r, 60) ? 4 : random_between(r, 1, 4));
     job->constant = random_chance(r, 60) ? 1000 : random_between(r, 100, 1000);
     for (int64_t i = 0; i < job->cells; i++) {
         job->u[i] = random_between(r, MOST_VALUE / 3, MOST_VALUE / 3 * 2);
         job->w[i] = i % apart == 0 || (apart < MOST_CELLS && i == job->cells - 1) ? random_between(r, 1, 3) : 0;
         job->lo[i] = 0;
         job->hi[i] = MOST_VALUE;
-        positive += job->w[i] > 0;
     }
-    for (int64_t i = 0; positive < job->order; i++)
-        if (job->w[i] == 0) {
-            job->w[i] = random_between(r, 1, 3);
-            positive++;
-        }
+    shape_add_weights(job);
 }
 
 /* Few cells with small weights and a small constant: the exact values are fractions with small denominators. */
 static void small_fractions(struct random *r, struct twin_job *job)
 {
-    job->cells = random_between(r, 2, 5);
-    job->order_field = job->order = random_between(r, 1, job->cells > 3 ? 3 : job->cells - 1);
+    int64_t cells = random_between(r, 2, 5);
+    shape_line(job, cells, random_between(r, 1, cells > 3 ? 3 : cells - 1));
     job->constant = random_between(r, 1, 8);
     for (int64_t i = 0; i < job->cells; i++) {
         job->u[i] = random_below(r, 1000);
@@ -106,8 +102,8 @@ static void small_fractions(struct random *r, struct twin_job *job)
 static void on_a_line(struct random *r, struct twin_job *job)
 {
     int64_t start = random_below(r, 400000), slope = 2 * random_below(r, 2000) + 1, most = random_chance(r, 50) ? 3 : 1000;
-    job->order_field = job->order = random_between(r, 2, 4);
-    job->cells = random_between(r, 2 * job->order, random_chance(r, 50) ? 20 : 110);
+    int64_t order = random_between(r, 2, 4);
+    shape_line(job, random_between(r, 2 * order, random_chance(r, 50) ? 20 : 110), order);
     for (int64_t i = 0; i < job->cells; i++) {
         job->u[i] = i % 2 == 0 ? start + slope * i / 2 : random_below(r, 1000);
         job->w[i] = i % 2 == 0 ? random_between(r, 1, most) : 0;

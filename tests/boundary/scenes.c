@@ -156,7 +156,7 @@ static void pack_call(struct random *r, struct call *c)
         draw_words(r);
         said = twin_write(job_words.at, job_words.count, (uint8_t *)room, sizeof room, answer, ANSWER_WORDS);
         lend(c, job_words.at, job_words.count, sizeof(int64_t), false);
-        lend_output(r, c, said % 32 == 0 ? said / 32 : 0, 3580, 1);
+        lend_output(r, c, said % 32 == 0 ? said / 32 : 0, 3586, 1);
         return;
     }
     draw_job(r);

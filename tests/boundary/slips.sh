@@ -10,7 +10,7 @@ need gcc gcc
 CALLS=60000
 out=target/tests/slips
 flags="-std=c99 -O1 -ffp-contract=off"
-parts="packs measure house shelf calls"
+parts="packs measure house grid shelf calls"
 passed=0 failed=0
 good() { passed=$((passed + 1)); }
 bad() { failed=$((failed + 1)); echo "FAILED  $1"; }
@@ -27,7 +27,7 @@ for part in $parts; do
   as_bench tests/twin/$part.c "$out/copy/$part.c"
   gcc $flags -c "$out/copy/$part.c" -o "$out/whole/$part.o" || exit 1
 done
-for part in differential scenes calls drafts extremes numbers lent; do
+for part in differential scenes calls drafts shapes extremes numbers lent; do
   gcc $flags -Wall -Wextra -Werror -c tests/boundary/$part.c -o "$out/$part.o" || exit 1
 done
 
@@ -49,8 +49,8 @@ try() {
   fi
 }
 
-gcc $flags -fsanitize=undefined -fno-sanitize-recover=all "$out"/copy/*.c tests/twin/{packs,measure,house,shelf,calls}.c \
-  tests/boundary/{differential,scenes,calls,drafts,extremes,numbers,lent}.c -o "$out/twins" || exit 1
+gcc $flags -fsanitize=undefined -fno-sanitize-recover=all "$out"/copy/*.c tests/twin/{packs,measure,house,grid,shelf,calls}.c \
+  tests/boundary/{differential,scenes,calls,drafts,shapes,extremes,numbers,lent}.c -o "$out/twins" || exit 1
 if "$out/twins" 1 60000 >"$out/log" 2>&1; then good; else bad "the twin differs from itself"; tail -n 20 "$out/log"; fi
 
 while IFS='|' read -r file what edit; do

@@ -1,4 +1,4 @@
-/* The house proposal (document 01): (W + kK'K)v = Wu in f64, each operation rounded once and in the paper's order.
+/* The house proposal (document 01) of a line: (W + kK'K)v = Wu in f64, each operation rounded once and in the paper's order.
  * Compile with -ffp-contract=off: a fused multiplication and subtraction would round once instead of twice. */
 #include "parts.h"
 
@@ -8,21 +8,32 @@ struct factor {
     double pivot[MOST_CELLS];
 };
 
-/* A(j, i) for i at most j and at most the order away from it: whole, and exact as a double. */
-static double entry(const struct twin_job *job, int64_t j, int64_t i)
+/* Over every difference that uses both cells, i at most j. */
+static inline int64_t product(int64_t order, int64_t length, int64_t j, int64_t i)
 {
-    const int64_t *s = twin_row[job->order];
-    int64_t first = j > job->order ? j - job->order : 0;
-    int64_t last = i < job->cells - job->order - 1 ? i : job->cells - job->order - 1;
+    const int64_t *s = twin_row[order];
+    int64_t first = j > order ? j - order : 0;
+    int64_t last = i < length - order - 1 ? i : length - order - 1;
     int64_t sum = 0;
     for (int64_t p = first; p <= last; p++)
         sum += s[i - p] * s[j - p];
-    return (double)((i == j ? job->w[j] : 0) + job->constant * sum);
+    return sum;
+}
+
+int64_t twin_product(int64_t order, int64_t length, int64_t j, int64_t i)
+{
+    return product(order, length, j, i);
+}
+
+/* A(j, i) for i at most j and at most the order away from it: whole, and exact as a double. */
+static double entry(const struct twin_job *job, int64_t j, int64_t i)
+{
+    return (double)((i == j ? job->w[j] : 0) + job->constant * product(job->down, job->cells, j, i));
 }
 
 static int64_t first_of_band(const struct twin_job *job, int64_t j)
 {
-    return j > job->order ? j - job->order : 0;
+    return j > job->down ? j - job->down : 0;
 }
 
 /* Row j of the factor and its pivot; false if the pivot is thin. */
@@ -45,7 +56,7 @@ static bool factor_row(const struct twin_job *job, struct factor *f, int64_t j)
 
 static void solve(const struct twin_job *job, const struct factor *f, double *v)
 {
-    int64_t n = job->cells, z = job->order;
+    int64_t n = job->cells, z = job->down;
     for (int64_t j = 0; j < n; j++) {
         v[j] = (double)(job->w[j] * job->u[j]);
         for (int64_t m = first_of_band(job, j); m < j; m++)
@@ -59,7 +70,7 @@ static void solve(const struct twin_job *job, const struct factor *f, double *v)
 }
 
 /* The whole number nearest to v within the box, halves up. v less its whole part is exact. */
-static int64_t rounded(double v, int64_t lo, int64_t hi)
+int64_t twin_rounded(double v, int64_t lo, int64_t hi)
 {
     if (!(v > (double)lo))
         return lo;
@@ -69,7 +80,7 @@ static int64_t rounded(double v, int64_t lo, int64_t hi)
     return v - (double)down >= 0.5 ? down + 1 : down;
 }
 
-struct twin_answer twin_house(const struct twin_job *job, int64_t *value)
+static struct twin_answer house_line(const struct twin_job *job, int64_t *value)
 {
     struct factor f;
     double v[MOST_CELLS];
@@ -78,6 +89,11 @@ struct twin_answer twin_house(const struct twin_job *job, int64_t *value)
             return twin_plain(10, (uint64_t)j);
     solve(job, &f, v);
     for (int64_t j = 0; j < job->cells; j++)
-        value[j] = rounded(v[j], job->lo[j], job->hi[j]);
+        value[j] = twin_rounded(v[j], job->lo[j], job->hi[j]);
     return twin_plain(0, 0);
+}
+
+struct twin_answer twin_house(const struct twin_job *job, int64_t *value)
+{
+    return job->order_field == GRID ? twin_house_grid(job, value) : house_line(job, value);
 }

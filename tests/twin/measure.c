@@ -10,40 +10,78 @@ __extension__ typedef __int128 wide;
 
 static const int64_t SQUARE_LIMIT = 2000000000;
 
-static int64_t difference(const struct twin_job *job, const struct twin_table *table, int64_t i)
+/* A run of differences: one starts at each of `starts` cells in turn and takes cells that lie `stride` apart. */
+struct run {
+    int64_t starts, order, stride, constant;
+};
+
+/* Down the columns the starts go on over the rows' ends, since each difference stays in its start's column. */
+static struct run down_columns(const struct twin_job *job)
 {
-    const int64_t *s = twin_row[job->order];
+    struct run run = {job->cells - job->down * job->columns, job->down, job->columns, job->constant};
+    return run;
+}
+
+/* Along one row. A line has no such differences. */
+static struct run along_row(const struct twin_job *job)
+{
+    struct run run = {job->columns - job->across, job->across, 1, job->second};
+    return run;
+}
+
+/* The difference that starts at the first of these values. */
+static int64_t difference(const struct run *run, const int64_t *v)
+{
+    const int64_t *s = twin_row[run->order];
     int64_t sum = 0;
-    for (int64_t m = 0; m <= job->order; m++)
-        sum += s[m] * table->value[i + m];
+    for (int64_t m = 0; m <= run->order; m++)
+        sum += s[m] * v[m * run->stride];
     return sum;
 }
 
-/* At most 7.6e18, so 64 bits are enough. */
+static int64_t roughness(const struct run *run, const int64_t *v)
+{
+    int64_t sum = 0;
+    for (int64_t i = 0; i < run->starts; i++) {
+        int64_t d = difference(run, v + i);
+        sum += d * d;
+    }
+    return run->constant * sum;
+}
+
+/* At most 7.6e18, so 64 bits are enough: the two constants of a grid are together at most 1,000. */
 static int64_t loss(const struct twin_job *job, const struct twin_table *table)
 {
-    int64_t fit = 0, rough = 0;
+    struct run down = down_columns(job), along = along_row(job);
+    int64_t sum = roughness(&down, table->value);
     for (int64_t i = 0; i < job->cells; i++) {
         int64_t away = table->value[i] - job->u[i];
-        fit += job->w[i] * away * away;
+        sum += job->w[i] * away * away;
     }
-    for (int64_t i = 0; i < job->cells - job->order; i++) {
-        int64_t d = difference(job, table, i);
-        rough += d * d;
+    for (int64_t row = 0; row < job->cells && along.starts > 0; row += job->columns)
+        sum += roughness(&along, table->value + row);
+    return sum;
+}
+
+/* Gives each difference back to the cells that it uses. */
+static void give_back(const struct run *run, const int64_t *v, int64_t *residual)
+{
+    const int64_t *s = twin_row[run->order];
+    for (int64_t i = 0; i < run->starts; i++) {
+        int64_t d = 2 * run->constant * difference(run, v + i);
+        for (int64_t m = 0; m <= run->order; m++)
+            residual[i + m * run->stride] += d * s[m];
     }
-    return fit + job->constant * rough;
 }
 
 void twin_residuals(const struct twin_job *job, const struct twin_table *table, int64_t *residual)
 {
-    const int64_t *s = twin_row[job->order];
+    struct run down = down_columns(job), along = along_row(job);
     for (int64_t i = 0; i < job->cells; i++)
         residual[i] = 2 * job->w[i] * (table->value[i] - job->u[i]);
-    for (int64_t i = 0; i < job->cells - job->order; i++) {
-        int64_t d = 2 * job->constant * difference(job, table, i);
-        for (int64_t m = 0; m <= job->order; m++)
-            residual[i + m] += d * s[m];
-    }
+    give_back(&down, table->value, residual);
+    for (int64_t row = 0; row < job->cells && along.starts > 0; row += job->columns)
+        give_back(&along, table->value + row, residual + row);
     for (int64_t l = 0; l < job->links; l++) {
         const struct twin_link *link = &job->link[l];
         for (int64_t t = 0; t < link->terms; t++)

@@ -96,31 +96,64 @@ static inline bool take(struct source *s, enum form form, int64_t low, int64_t h
     return true;
 }
 
+/* An order: at most 4, and less than the count of cells that it runs over. */
+static bool take_order(struct source *s, int64_t length, int64_t *order)
+{
+    return take(s, UNSIGNED, 1, length > MOST_ORDER ? MOST_ORDER : length - 1, order);
+}
+
+/* The fields of a grid. Rows may be any number of at least 2, so columns are held to n / rows first: then the product cannot wrap. */
+static bool take_grid(struct source *s, struct twin_job *job)
+{
+    if (!take(s, UNSIGNED, 2, INT64_MAX, &job->rows) || !take(s, UNSIGNED, 2, job->cells / job->rows, &job->columns))
+        return false;
+    if (job->rows * job->columns != job->cells)
+        return refuse(s, 2, s->start);
+    return take_order(s, job->rows, &job->down) && take_order(s, job->columns, &job->across) && take(s, UNSIGNED, 1, 999, &job->second);
+}
+
+/* A line has no fields of its own; its order is tested where the order field stands. */
+static bool is_line(struct source *s, struct twin_job *job)
+{
+    job->rows = job->cells;
+    job->columns = job->across = 1;
+    job->second = 0;
+    job->down = job->order_field == 0 ? 2 : job->order_field;
+    return job->down < job->cells || refuse(s, 2, s->start);
+}
+
 static bool take_header(struct source *s, struct twin_job *job)
 {
     if (!take(s, UNSIGNED, 0, 7, &job->society) || !take(s, UNSIGNED, 0, 4294967295, &job->number)
-        || !take(s, UNSIGNED, 2, MOST_CELLS, &job->cells) || !take(s, UNSIGNED, 0, MOST_ORDER, &job->order_field))
+        || !take(s, UNSIGNED, 2, MOST_CELLS, &job->cells) || !take(s, UNSIGNED, 0, GRID, &job->order_field))
         return false;
-    job->order = job->order_field == 0 ? 2 : job->order_field;
-    if (job->order >= job->cells)
-        return refuse(s, 2, s->start);
-    return take(s, UNSIGNED, 1, 1000, &job->constant) && take(s, UNSIGNED, 0, 1000000000000000, &job->tolerance);
+    if (job->order_field == GRID ? !take_grid(s, job) : !is_line(s, job))
+        return false;
+    return take(s, UNSIGNED, 1, 1000 - job->second, &job->constant) && take(s, UNSIGNED, 0, 1000000000000000, &job->tolerance);
 }
 
+static inline bool take_cell(struct source *s, struct twin_job *job, int64_t i)
+{
+    if (!take(s, UNSIGNED, 0, 1000000, &job->u[i]) || !take(s, UNSIGNED, 0, 1000, &job->w[i])
+        || !take(s, UNSIGNED, 0, 1000000, &job->lo[i]) || !take(s, UNSIGNED, 0, 1000000, &job->hi[i]))
+        return false;
+    return job->lo[i] <= job->hi[i] || refuse(s, 3, (uint64_t)i);
+}
+
+/* A row holds enough if it has the order across of positive weights; the order down of such rows is needed. A row of a line is a cell. */
 static bool take_cells(struct source *s, struct twin_job *job)
 {
-    int64_t positive = 0;
-    for (int64_t i = 0; i < job->cells; i++) {
-        if (!take(s, UNSIGNED, 0, 1000000, &job->u[i]) || !take(s, UNSIGNED, 0, 1000, &job->w[i])
-            || !take(s, UNSIGNED, 0, 1000000, &job->lo[i]) || !take(s, UNSIGNED, 0, 1000000, &job->hi[i]))
-            return false;
-        if (job->lo[i] > job->hi[i])
-            return refuse(s, 3, (uint64_t)i);
-        positive += job->w[i] > 0;
+    int64_t enough = 0;
+    for (int64_t start = 0; start < job->cells; start += job->columns) {
+        int64_t positive = 0;
+        for (int64_t i = start; i < start + job->columns; i++) {
+            if (!take_cell(s, job, i))
+                return false;
+            positive += job->w[i] > 0;
+        }
+        enough += positive >= job->across;
     }
-    if (positive < job->order)
-        return refuse(s, 4, 0);
-    return true;
+    return enough >= job->down || refuse(s, 4, 0);
 }
 
 static bool take_link(struct source *s, int64_t cells, uint64_t place, struct twin_link *link)
@@ -177,7 +210,7 @@ struct twin_answer twin_read_proposal(const uint8_t *bytes, size_t count, const 
 
 size_t twin_job_words(const struct twin_job *job)
 {
-    size_t words = 7 + 4 * (size_t)job->cells;
+    size_t words = (job->order_field == GRID ? 12 : 7) + 4 * (size_t)job->cells;
     for (int64_t l = 0; l < job->links; l++)
         words += 2 + 2 * (size_t)job->link[l].terms;
     return words;
@@ -197,11 +230,21 @@ static void give(struct sink *s, enum form form, int64_t value)
         s->bytes += twin_put_number(s->bytes, stored(form, value));
 }
 
+static void give_header(struct sink *s, const struct twin_job *job)
+{
+    const int64_t first[] = {job->society, job->number, job->cells, job->order_field};
+    const int64_t grid[] = {job->rows, job->columns, job->down, job->across, job->second};
+    for (int i = 0; i < 4; i++)
+        give(s, UNSIGNED, first[i]);
+    for (int i = 0; i < 5 && job->order_field == GRID; i++)
+        give(s, UNSIGNED, grid[i]);
+    give(s, UNSIGNED, job->constant);
+    give(s, UNSIGNED, job->tolerance);
+}
+
 static void give_job(struct sink *s, const struct twin_job *job)
 {
-    const int64_t header[6] = {job->society, job->number, job->cells, job->order_field, job->constant, job->tolerance};
-    for (int i = 0; i < 6; i++)
-        give(s, UNSIGNED, header[i]);
+    give_header(s, job);
     for (int64_t i = 0; i < job->cells; i++) {
         give(s, UNSIGNED, job->u[i]);
         give(s, UNSIGNED, job->w[i]);

@@ -9,6 +9,9 @@
 enum { MOST_CELLS = 120, MOST_LINKS = 160, MOST_TERMS = 4, MOST_ORDER = 4 };
 enum { ANSWER_WORDS = 4, SHELF_WORDS = 4032 };
 
+/* The order field that announces a grid (document 02, W-205). */
+enum { GRID = 5 };
+
 struct twin_link {
     int64_t terms;
     int64_t cell[MOST_TERMS];
@@ -16,9 +19,11 @@ struct twin_link {
     int64_t bound;
 };
 
-/* A job's numbers. `order_field` is as packed, `order` is the order used. */
+/* A job's numbers. `order_field` is as packed. Cells run along a row first: k, the constant, and the order down go with differences down the
+ * columns, the second constant and the order across with those along a row. A line is one column: as many rows as cells, the order used is
+ * the order down, the order across is 1 and the second constant 0. */
 struct twin_job {
-    int64_t society, number, cells, order_field, order, constant, tolerance;
+    int64_t society, number, cells, order_field, rows, columns, down, across, second, constant, tolerance;
     int64_t u[MOST_CELLS], w[MOST_CELLS], lo[MOST_CELLS], hi[MOST_CELLS];
     int64_t links;
     struct twin_link link[MOST_LINKS];
@@ -53,8 +58,12 @@ extern const int64_t twin_row[MOST_ORDER + 1][MOST_ORDER + 1];
 void twin_residuals(const struct twin_job *job, const struct twin_table *table, int64_t *residual);
 struct twin_answer twin_judge(const struct twin_job *job, const struct twin_table *table);
 
-/* The house proposal: done with the values, or refusal 10. */
+/* The house proposal: done with the values, or refusal 20 or 10. twin_house_grid is its part for grids, which need a wider band; both use
+ * the entries of K'K, for one column or row of so many cells, and the rounding. */
 struct twin_answer twin_house(const struct twin_job *job, int64_t *value);
+struct twin_answer twin_house_grid(const struct twin_job *job, int64_t *value);
+int64_t twin_product(int64_t order, int64_t length, int64_t j, int64_t i);
+int64_t twin_rounded(double v, int64_t lo, int64_t hi);
 
 /* The shelf: a slot is one of document 01's places of 126 words. twin_find answers the slot, or a null pointer. */
 enum { SLOTS = 4, SLOT_WORDS = 126, SOCIETIES = 8 };

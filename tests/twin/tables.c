@@ -1,4 +1,5 @@
-/* The twin against document 01 itself: its tables worked by hand, its forms of numbers, and the checking program's lines. */
+/* The twin against document 01 itself: its tables worked by hand, its forms of numbers, and the checking program's lines. Then grids. */
+#include "tables.h"
 #include "twin.h"
 
 #include <stdio.h>
@@ -6,7 +7,7 @@
 
 static int passed, failed;
 
-static void expect(int holds, const char *what)
+void expect(int holds, const char *what)
 {
     passed += holds != 0;
     failed += !holds;
@@ -121,6 +122,7 @@ int main(void)
     thin_job();
     readings();
     lines();
+    select_tables();
     printf("%d passed, %d failed\n", passed, failed);
     return failed == 0 ? 0 : 1;
 }

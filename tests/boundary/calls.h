@@ -6,9 +6,10 @@
 
 enum function { CHECK, PROPOSE, KEEP, FETCH, FORGET, CLEAR, READ, WRITE, FUNCTIONS };
 
-/* The slices stand in the order of the call's own; the last is the answer slice. */
+/* The slices stand in the order of the call's own; the last is the answer slice. `grid` if its job, before any damage, is a grid. */
 struct call {
     enum function function;
+    bool grid;
     int slices;
     struct slice slice[MOST_SLICES];
     uint32_t society, job;

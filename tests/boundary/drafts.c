@@ -13,23 +13,16 @@ static int64_t smaller(int64_t a, int64_t b) { return a < b ? a : b; }
 static int64_t larger(int64_t a, int64_t b) { return a > b ? a : b; }
 static int64_t within(int64_t x, int64_t low, int64_t high) { return smaller(larger(x, low), high); }
 
-static int64_t count_of_cells(struct random *r)
-{
-    int64_t size = random_below(r, 1000);
-    return size < 500 ? random_between(r, 2, 5) : size < 850 ? random_between(r, 6, 12) : size < 960 ? random_between(r, 13, 40)
-         : size < 985 ? random_between(r, 41, 120) : 120;
-}
-
+/* About a third of all jobs are grids. */
 static void draw_header(struct random *r, struct twin_job *job)
 {
     static const int64_t numbers[] = {6, 127, 128, 16384, 4294967295};
     job->society = random_chance(r, 70) ? random_below(r, 2) * 7 : random_below(r, 8);
     job->number = random_chance(r, 80) ? random_below(r, 6) : random_between(r, 0, numbers[random_below(r, 5)]);
-    int64_t cells = count_of_cells(r);
-    do
-        shape_line(job, cells, random_below(r, 5));
-    while (job->down >= cells);
-    job->constant = random_chance(r, 50) ? random_between(r, 1, 4) : random_chance(r, 50) ? 1000 : random_between(r, 1, 1000);
+    if (random_chance(r, 34))
+        shape_draw_grid(r, job);
+    else
+        shape_draw_line(r, job);
     job->tolerance = MOST_TOLERANCE;
     job->links = 0;
 }
@@ -199,11 +192,10 @@ void draft_make(struct random *r, struct draft *d)
     settle_tolerance(r, d);
 }
 
-void draft_full(struct random *r, int64_t order_field, struct draft *d)
+/* Numbers for the header that is drawn: as many bytes as they can have, and a table that is accepted. */
+static void fill_draft(struct random *r, struct draft *d)
 {
     struct twin_job *job = &d->job;
-    draw_header(r, job);
-    shape_line(job, MOST_CELLS, order_field);
     for (int64_t i = 0; i < job->cells; i++) {
         job->u[i] = random_between(r, 100000, 1000000);
         job->w[i] = random_between(r, 128, 1000);
@@ -219,6 +211,22 @@ void draft_full(struct random *r, int64_t order_field, struct draft *d)
     close_boxes(r, d, 100);
 }
 
+void draft_full(struct random *r, int64_t order_field, struct draft *d)
+{
+    draw_header(r, &d->job);
+    shape_line(&d->job, MOST_CELLS, order_field);
+    fill_draft(r, d);
+}
+
+void draft_full_grid(struct random *r, int64_t columns, int64_t down, int64_t across, struct draft *d)
+{
+    draw_header(r, &d->job);
+    shape_grid(&d->job, MOST_CELLS / columns, columns, down, across);
+    d->job.second = 500;
+    d->job.constant = 500;
+    fill_draft(r, d);
+}
+
 /* The place of 3, 4 or 7: a cell that can be broken in that way, if there is one. */
 static void break_cell(struct random *r, struct draft *d, int way)
 {
@@ -227,8 +235,7 @@ static void break_cell(struct random *r, struct draft *d, int way)
     if (way == 0 && job->hi[i] < MOST_VALUE)
         job->lo[i] = random_chance(r, 50) ? job->hi[i] + 1 : random_between(r, job->hi[i] + 1, MOST_VALUE);
     if (way == 1)
-        for (int64_t c = 0, left = random_below(r, job->down); c < job->cells; c++)
-            job->w[c] = left > 0 && job->w[c] > 0 ? (left--, job->w[c]) : 0;
+        shape_starve(r, job);
     if (way == 2 && job->lo[i] > 0)
         d->table.value[i] = random_chance(r, 50) ? job->lo[i] - 1 : random_below(r, job->lo[i]);
     if (way == 3 && job->hi[i] < MOST_VALUE)
@@ -253,9 +260,11 @@ static void break_link(struct random *r, struct draft *d, int way)
 
 void draft_break(struct random *r, struct draft *d)
 {
-    int way = (int)random_below(r, 8);
+    int way = (int)random_below(r, shape_is_grid(&d->job) ? 11 : 8);
     if (way == 7)
         d->job.tolerance = random_below(r, d->job.tolerance + 1);
+    else if (way > 7)
+        shape_break(r, &d->job);
     else if (way < 4)
         break_cell(r, d, way);
     else

@@ -16,7 +16,10 @@ void draft_make(struct random *r, struct draft *draft);
 /* The largest draft in every count: 120 cells, 160 links of 4 terms, accepted, of this order field. */
 void draft_full(struct random *r, int64_t order_field, struct draft *draft);
 
-/* Breaks one rule that is about more than one number: refusals 3, 4, 5, 7, 8 or 9, where the draft has room for it. */
+/* The same of a grid of so many columns and these orders. */
+void draft_full_grid(struct random *r, int64_t columns, int64_t down, int64_t across, struct draft *draft);
+
+/* Breaks one rule that is about more than one number: refusals 3, 4, 5, 7, 8 or 9, where the draft has room for it, and 2 of a grid. */
 void draft_break(struct random *r, struct draft *draft);
 
 #endif

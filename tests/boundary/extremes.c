@@ -1,5 +1,6 @@
 /* See extremes.h. */
 #include "extremes.h"
+#include "grids.h"
 #include "shapes.h"
 
 static const int64_t MOST_VALUE = 1000000;
@@ -58,20 +59,24 @@ void extreme_gap(struct random *r, struct draft *d)
 void extreme_loss(struct random *r, struct draft *d)
 {
     struct twin_job *job = &d->job;
-    int64_t cells = random_between(r, 80, 120);
-    shape_line(job, cells, random_between(r, 3, 4));
-    job->constant = 1000 - random_below(r, 3);
+    if (shape_is_grid(job)) {
+        grid_largest(r, job);
+    } else {
+        int64_t cells = random_between(r, 80, 120);
+        shape_line(job, cells, random_between(r, 3, 4));
+        job->constant = 1000 - random_below(r, 3);
+    }
     for (int64_t i = 0; i < job->cells; i++) {
         job->u[i] = random_below(r, 2) * MOST_VALUE;
         job->w[i] = 1000;
         job->lo[i] = 0;
         job->hi[i] = MOST_VALUE;
-        d->table.value[i] = i % 2 * MOST_VALUE;
+        d->table.value[i] = (i / job->columns + i % job->columns) % 2 * MOST_VALUE;
     }
 }
 
 /* The weights stand in the first cells alone, which makes pivots too small, or far apart: between them a value hangs on differences only. */
-void extreme_pivots(struct random *r, struct twin_job *job)
+static void line_pivots(struct random *r, struct twin_job *job)
 {
     int64_t apart = random_chance(r, 50) ? random_between(r, 8, 40) : MOST_CELLS;
     int64_t cells = random_chance(r, 60) ? random_between(r, 60, 120) : random_between(r, 6, 40);
@@ -84,6 +89,14 @@ void extreme_pivots(struct random *r, struct twin_job *job)
         job->hi[i] = MOST_VALUE;
     }
     shape_add_weights(job);
+}
+
+void extreme_pivots(struct random *r, struct twin_job *job)
+{
+    if (shape_is_grid(job))
+        grid_pivots(r, job);
+    else
+        line_pivots(r, job);
 }
 
 /* Few cells with small weights and a small constant: the exact values are fractions with small denominators. */
@@ -112,7 +125,9 @@ static void on_a_line(struct random *r, struct twin_job *job)
 
 void extreme_halves(struct random *r, struct twin_job *job)
 {
-    if (random_chance(r, 50))
+    if (shape_is_grid(job))
+        grid_halves(r, job);
+    else if (random_chance(r, 50))
         small_fractions(r, job);
     else
         on_a_line(r, job);

@@ -9,15 +9,36 @@ static void add(struct numbers *list, int64_t value, int64_t low, int64_t high, 
     list->at[list->count++] = number;
 }
 
+/* The most that an order can be over so many cells. */
+static int64_t most_order(int64_t length)
+{
+    return length > 4 ? 4 : length - 1;
+}
+
+/* The fields of a grid. Rows have no limit but 2; half the cells is the most that can be right. */
+static void add_grid(struct numbers *list, const struct twin_job *job)
+{
+    add(list, job->order_field, 0, 5, false);
+    add(list, job->rows, 2, job->cells / 2, false);
+    add(list, job->columns, 2, job->cells / 2, false);
+    add(list, job->down, 1, most_order(job->rows), false);
+    add(list, job->across, 1, most_order(job->columns), false);
+    add(list, job->second, 1, 999, false);
+}
+
 void numbers_of_job(const struct twin_job *job, struct numbers *list)
 {
     list->count = 0;
     add(list, job->society, 0, 7, false);
     add(list, job->number, 0, 4294967295, false);
     add(list, job->cells, 2, 120, false);
-    add(list, job->order_field, job->cells > 2 ? 0 : 1, job->cells > 4 ? 4 : job->cells - 1, false);
-    add(list, job->constant, 1, 1000, false);
+    if (job->order_field == GRID)
+        add_grid(list, job);
+    else
+        add(list, job->order_field, job->cells > 2 ? 0 : 1, most_order(job->cells), false);
+    add(list, job->constant, 1, 1000 - job->second, false);
     add(list, job->tolerance, 0, 1000000000000000, false);
+    list->head = list->count;
     for (int64_t i = 0; i < job->cells; i++) {
         add(list, job->u[i], 0, 1000000, false);
         add(list, job->w[i], 0, 1000, false);
@@ -39,6 +60,7 @@ void numbers_of_job(const struct twin_job *job, struct numbers *list)
 void numbers_of_proposal(const struct draft *d, struct numbers *list)
 {
     list->count = 0;
+    list->head = 6;
     for (int64_t i = 0; i < d->job.cells; i++)
         add(list, d->table.value[i], 0, 1000000, false);
     for (int64_t l = 0; l < d->job.links; l++)
@@ -68,10 +90,10 @@ void numbers_pack(const struct numbers *list, struct bytes *out)
     pack(list, list->count, 1, out);
 }
 
-/* A number to damage: one of the first six as often as any other. */
-static size_t chosen(struct random *r, size_t count)
+/* A number to damage: one of the head as often as any other. */
+static size_t chosen(struct random *r, const struct numbers *list)
 {
-    return (size_t)random_below(r, random_chance(r, 40) && count > 6 ? 6 : (int64_t)count);
+    return (size_t)random_below(r, random_chance(r, 40) && list->count > list->head ? (int64_t)list->head : (int64_t)list->count);
 }
 
 /* A value at a limit, one beyond it, or far beyond. Signed ones stay within what nine groups can store, or pass it. */
@@ -116,7 +138,7 @@ void bytes_spoil(struct random *r, struct bytes *out)
 
 void numbers_spoil_pack(struct random *r, struct numbers *list, struct bytes *out)
 {
-    size_t odd = chosen(r, list->count);
+    size_t odd = chosen(r, list);
     int64_t way = random_below(r, 10);
     if (way < 5) {
         list->at[odd].value = odd_value(r, &list->at[odd]);
@@ -138,7 +160,7 @@ void numbers_words(const struct numbers *list, struct words *out)
 
 void words_spoil(struct random *r, const struct numbers *list, struct words *out)
 {
-    size_t odd = chosen(r, list->count);
+    size_t odd = chosen(r, list);
     int64_t way = random_below(r, 10);
     if (way < 5 && odd < out->count)
         out->at[odd] = odd_value(r, &list->at[odd]);

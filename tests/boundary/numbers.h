@@ -11,8 +11,9 @@ struct number {
     bool is_signed;
 };
 
+/* The numbers of the head stand before a job's cells. */
 struct numbers {
-    size_t count;
+    size_t count, head;
     struct number at[MOST_NUMBERS];
 };
 

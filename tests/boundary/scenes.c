@@ -2,6 +2,7 @@
 #include "scenes.h"
 #include "../twin/twin.h"
 #include "numbers.h"
+#include "shapes.h"
 
 #include <string.h>
 
@@ -144,6 +145,7 @@ static void draw_key(struct random *r, struct call *c)
 
 static void lend_job(struct call *c)
 {
+    c->grid = shape_is_grid(&draft->job);
     lend(c, job_pack.at, job_pack.count, 1, false);
 }
 
@@ -155,6 +157,7 @@ static void pack_call(struct random *r, struct call *c)
     if (c->function == WRITE) {
         draw_words(r);
         said = twin_write(job_words.at, job_words.count, (uint8_t *)room, sizeof room, answer, ANSWER_WORDS);
+        c->grid = shape_is_grid(&draft->job);
         lend(c, job_words.at, job_words.count, sizeof(int64_t), false);
         lend_output(r, c, said % 32 == 0 ? said / 32 : 0, 3586, 1);
         return;

@@ -138,7 +138,7 @@ static void exchange(int64_t *a, int64_t *b)
 
 void shape_break(struct random *r, struct twin_job *job)
 {
-    switch (random_below(r, 9)) {
+    switch (random_below(r, 10)) {
     case 0: job->rows += random_chance(r, 50) ? 1 : random_below(r, job->cells); break;
     case 1: exchange(&job->rows, &job->columns); break;
     case 2: job->rows = wrapping(r, job->rows, job->columns); break;
@@ -147,6 +147,10 @@ void shape_break(struct random *r, struct twin_job *job)
     case 5: job->across = job->columns; break;
     case 6: job->constant = 1001 - job->second; break;
     case 7: job->second = 1001 - job->constant; break;
-    default: job->second = 1000; break;
+    case 8: job->second = 1000; break;
+    default:
+        job->columns = random_chance(r, 50) ? 1 : job->cells;
+        job->rows = job->cells / job->columns;
+        break;
     }
 }

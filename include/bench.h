@@ -100,8 +100,12 @@ extern "C" {
 #define BENCH_ANSWER_WORDS 4   /* 64-bit words of an answer slice */
 #define BENCH_SHELF_WORDS 4032 /* 32-bit words of a shelf: 8 societies of 4 slots of 126 */
 
-/* No call needs more stack than this. */
+/* 2: select tables. */
+#define BENCH_VERSION 2
+
+/* No call needs more stack than this, and none on a job that is no grid more than the second. */
 #define BENCH_STACK_BYTES 98304
+#define BENCH_LINE_STACK_BYTES 49152
 
 /* The most that a job can have. */
 #define BENCH_MOST_CELLS 120

@@ -5,6 +5,11 @@
 #include <stdio.h>
 #include <string.h>
 
+/* Select tables came with version 2. */
+#if BENCH_VERSION < 2
+#error "include/bench.h is older than this caller"
+#endif
+
 static int passed, failed;
 static uint64_t answer[BENCH_ANSWER_WORDS];
 static uint32_t shelf[BENCH_SHELF_WORDS];
@@ -16,6 +21,11 @@ static const uint8_t PROPOSAL[] = {2, 3, 2};
 /* The same with crude rates 0 5 0, tolerance 100, order field 0, and two links: -v0+v1 <= 0 and v2 <= 50. */
 static const uint8_t LINKED[] = {3, 7, 3, 0, 1, 100, 0, 1, 0, 100, 5, 1, 0, 100, 0, 1, 0, 100, 2, 2, 0, 1, 1, 2, 0, 1, 2, 2, 100};
 static const int64_t LINKED_WORDS[] = {3, 7, 3, 0, 1, 100, 0, 1, 0, 100, 5, 1, 0, 100, 0, 1, 0, 100, 2, 2, 0, -1, 1, 1, 0, 1, 2, 1, 50};
+
+/* A select table of two rows and two columns: orders 1 and 1, second constant 2, constant 1, tolerance 0, crude rates 14 2 and 7 9, weights 1,
+ * boxes 0..100. The differences of 9 7 and 8 8 are -1 1 down and -2 0 across, and every residual is 0: F = 52 + 1*2 + 2*4 = 62, G = 0. */
+static const uint8_t SELECT[] = {3, 8, 4, 5, 2, 2, 1, 1, 2, 1, 0, 14, 1, 0, 100, 2, 1, 0, 100, 7, 1, 0, 100, 9, 1, 0, 100, 0};
+static const uint8_t SELECT_PROPOSAL[] = {9, 7, 8, 8};
 
 static void expect(int holds, const char *what)
 {
@@ -132,7 +142,33 @@ static void round_trip(void)
     expect(memcmp(out, LINKED, sizeof LINKED) == 0 && out[sizeof LINKED] == 0xEE, "writing what was read gives the same bytes and no more");
 }
 
-/* Refusals of a job pack: one byte of JOB or LINKED is changed, or its length. */
+/* A select table from its pack to the shelf and back. */
+static void select_table(void)
+{
+    int64_t words[BENCH_MOST_JOB_WORDS];
+    uint8_t pack[BENCH_MOST_JOB_BYTES], out[BENCH_MOST_HOUSE_BYTES];
+    uint32_t values[BENCH_MOST_VALUES];
+    int same = 1;
+    memset(out, 0xEE, sizeof out);
+    uint64_t said = bench_read(SELECT, sizeof SELECT, words, BENCH_MOST_JOB_WORDS, answer, BENCH_ANSWER_WORDS);
+    expect_answer(said, BENCH_DONE, sizeof SELECT, 0, 0, "a select table is read");
+    for (size_t i = 0; i < sizeof SELECT; i++)
+        same = same && words[i] == SELECT[i];
+    expect(same, "with rows, columns, orders and second constant among its numbers");
+    said = bench_write(words, sizeof SELECT, pack, sizeof pack, answer, BENCH_ANSWER_WORDS);
+    expect_answer(said, BENCH_DONE, sizeof SELECT, 0, 0, "a select table is written");
+    expect(memcmp(pack, SELECT, sizeof SELECT) == 0, "as the same bytes");
+    said = bench_propose(SELECT, sizeof SELECT, out, sizeof out, answer, BENCH_ANSWER_WORDS);
+    expect_answer(said, BENCH_DONE, 4, 0, 0, "a select table is proposed");
+    expect(memcmp(out, SELECT_PROPOSAL, 4) == 0 && out[4] == 0xEE, "the house proposal is 9 7 and 8 8");
+    expect_answer(check(SELECT, sizeof SELECT, out, 4), BENCH_DONE, 0, 62, 0, "a select table is accepted");
+    bench_clear(shelf, BENCH_SHELF_WORDS, answer, BENCH_ANSWER_WORDS);
+    expect_answer(keep(SELECT, sizeof SELECT, out, 4), BENCH_DONE, 0, 62, 0, "a select table is kept");
+    expect_answer(fetch(3, 8, values, BENCH_MOST_VALUES), BENCH_DONE, 4, 62, 0, "a select table is fetched");
+    expect(values[0] == 9 && values[1] == 7 && values[2] == 8 && values[3] == 8, "row by row");
+}
+
+/* Refusals of a job pack: one byte of JOB, LINKED or SELECT is changed, or its length. */
 struct damaged {
     const char *what;
     const uint8_t *pack;
@@ -154,6 +190,15 @@ static void job_refusals(void)
         {"floor 101 above ceiling 100 in cell 1", JOB, sizeof JOB, 12, 101, 3, 1},
         {"a coefficient 0 in link 1", LINKED, sizeof LINKED, 27, 0, 5, 1},
         {"cells of link 0 not rising", LINKED, sizeof LINKED, 22, 0, 5, 0},
+        {"order field 6", SELECT, sizeof SELECT, 3, 6, 2, 3},
+        {"one row", SELECT, sizeof SELECT, 4, 1, 2, 4},
+        {"three rows for four cells", SELECT, sizeof SELECT, 4, 3, 2, 5},
+        {"one column", SELECT, sizeof SELECT, 5, 1, 2, 5},
+        {"an order down as large as the rows", SELECT, sizeof SELECT, 6, 2, 2, 6},
+        {"an order across as large as the columns", SELECT, sizeof SELECT, 7, 2, 2, 7},
+        {"second constant 0", SELECT, sizeof SELECT, 8, 0, 2, 8},
+        {"constant 0 of a grid", SELECT, sizeof SELECT, 9, 0, 2, 9},
+        {"a select table cut off before its columns", SELECT, 5, 0, 3, 1, 5},
     };
     uint8_t pack[64], out[BENCH_MOST_HOUSE_BYTES];
     for (size_t i = 0; i < sizeof cases / sizeof *cases; i++) {
@@ -195,27 +240,67 @@ static void thin_refusal(void)
     expect_answer(said, BENCH_TOO_THIN, 119, 0, 0, "data too thin at cell 119");
 }
 
+/* A grid of two rows, weights 1, made with the writer; the answer is its pack's bytes. */
+static size_t two_rows(int64_t columns, uint8_t *pack, size_t bytes)
+{
+    int64_t words[12 + 4 * BENCH_MOST_CELLS] = {0};
+    const int64_t header[] = {0, 0, 2 * columns, 5, 2, columns, 1, 4, 999, 1, 0};
+    memcpy(words, header, sizeof header);
+    for (int64_t i = 0; i < 2 * columns; i++) {
+        words[11 + 4 * i] = words[14 + 4 * i] = 50;
+        words[12 + 4 * i] = 1;
+    }
+    return (size_t)BENCH_PLACE(bench_write(words, (size_t)(12 + 8 * columns), pack, bytes, answer, BENCH_ANSWER_WORDS));
+}
+
+static void wide_refusal(void)
+{
+    uint8_t pack[BENCH_MOST_JOB_BYTES], out[BENCH_MOST_HOUSE_BYTES];
+    size_t bytes = two_rows(12, pack, sizeof pack);
+    uint64_t said = bench_propose(pack, bytes, out, sizeof out, answer, BENCH_ANSWER_WORDS);
+    expect_answer(said, BENCH_DONE, 24, 0, 0, "12 columns are not too wide");
+    bytes = two_rows(13, pack, sizeof pack);
+    expect_answer(bench_propose(pack, bytes, out, 0, answer, BENCH_ANSWER_WORDS), BENCH_GRID_TOO_WIDE, 0, 0, 0, "13 columns are too wide");
+    memset(out, 50, 26);
+    expect_answer(check(pack, bytes, out, 26), BENCH_DONE, 0, 0, 0, "but not for the check");
+    pack[bytes] = 0;
+    said = bench_propose(pack, bytes + 1, out, sizeof out, answer, BENCH_ANSWER_WORDS);
+    expect_answer(said, BENCH_UNREADABLE, bytes, 0, 0, "a spare byte comes before the width");
+    for (size_t i = 0; i < 13; i++)
+        pack[13 + 4 * i] = pack[13 + 4 * (i + 13)] = i < 3;
+    said = bench_propose(pack, bytes, out, sizeof out, answer, BENCH_ANSWER_WORDS);
+    expect_answer(said, BENCH_FEW_WEIGHTS, 0, 0, 0, "no row with four positive weights where the order across is 4");
+}
+
+/* The numbers of a job that has the most cells and links, each with as many bytes as it can have; the answer is their count. */
+static size_t largest_words(const int64_t *header, size_t at, int64_t *words)
+{
+    memcpy(words, header, at * sizeof *header);
+    for (int i = 0; i < BENCH_MOST_CELLS; i++, at += 4) {
+        words[at] = words[at + 2] = words[at + 3] = 1000000;
+        words[at + 1] = 1000;
+    }
+    words[at++] = BENCH_MOST_LINKS;
+    for (int l = 0; l < BENCH_MOST_LINKS; l++, at += 10) {
+        const int64_t link[] = {4, 116, 10, 117, -10, 118, 10, 119, -10, 1000000000};
+        memcpy(words + at, link, sizeof link);
+    }
+    return at;
+}
+
 /* The largest job: the lengths that bench.h names are reached, and one byte less is too few. Its links leave so much room that multipliers
  * of 10^9 make a vast gap: 9 says that the proposal was read whole. */
 static void largest_job(void)
 {
     static int64_t words[BENCH_MOST_JOB_WORDS], again[BENCH_MOST_JOB_WORDS];
     static uint8_t pack[BENCH_MOST_JOB_BYTES], proposal[BENCH_MOST_PROPOSAL_BYTES + 1], out[BENCH_MOST_HOUSE_BYTES];
-    const int64_t header[] = {7, 4294967295, 120, 4, 1000, 1000000000000000};
+    const int64_t header[] = {7, 4294967295, 120, 5, 10, 12, 4, 4, 500, 500, 1000000000000000};
     const uint8_t million[] = {0xC0, 0x84, 0x3D}, milliard[] = {0x80, 0x94, 0xEB, 0xDC, 0x03};
-    size_t at = 6;
-    memcpy(words, header, sizeof header);
-    for (int i = 0; i < BENCH_MOST_CELLS; i++, at += 4) {
-        words[at] = words[at + 2] = words[at + 3] = 1000000;
-        words[at + 1] = 1000;
+    size_t at = largest_words(header, 11, words);
+    for (int i = 0; i < BENCH_MOST_CELLS; i++)
         memcpy(proposal + 3 * i, million, 3);
-    }
-    words[at++] = BENCH_MOST_LINKS;
-    for (int l = 0; l < BENCH_MOST_LINKS; l++, at += 10) {
-        const int64_t link[] = {4, 116, 10, 117, -10, 118, 10, 119, -10, 1000000000};
-        memcpy(words + at, link, sizeof link);
+    for (int l = 0; l < BENCH_MOST_LINKS; l++)
         memcpy(proposal + 360 + 5 * l, milliard, 5);
-    }
     uint64_t said = bench_write(words, at, pack, BENCH_MOST_JOB_BYTES - 1, answer, BENCH_ANSWER_WORDS);
     expect_answer(said, BENCH_WRONG_LENGTH, BENCH_MOST_JOB_BYTES, 0, 0, "the largest job needs all bytes");
     said = bench_write(words, at, pack, BENCH_MOST_JOB_BYTES, answer, BENCH_ANSWER_WORDS);
@@ -229,6 +314,16 @@ static void largest_job(void)
     expect_answer(said, BENCH_GAP_ABOVE_TOLERANCE, 0, 0, 0, "the largest proposal is read");
     said = check(pack, sizeof pack, proposal, BENCH_MOST_PROPOSAL_BYTES + 1);
     expect_answer(said, BENCH_BAD_PROPOSAL, BENCH_MOST_PROPOSAL_BYTES, 0, 0, "and nothing may follow it");
+}
+
+static void largest_line(void)
+{
+    static int64_t words[BENCH_MOST_JOB_WORDS];
+    static uint8_t pack[BENCH_MOST_JOB_BYTES];
+    const int64_t header[] = {7, 4294967295, 120, 4, 1000, 1000000000000000};
+    size_t at = largest_words(header, 6, words);
+    uint64_t said = bench_write(words, at, pack, sizeof pack, answer, BENCH_ANSWER_WORDS);
+    expect_answer(said, BENCH_DONE, 3580, 0, 0, "the largest job that is no grid has 3,580 bytes");
 }
 
 static void shelf_refusals(void)
@@ -274,10 +369,13 @@ int main(void)
     shelf_is_full();
     proposals();
     round_trip();
+    select_table();
     job_refusals();
     proposal_refusals();
     thin_refusal();
+    wide_refusal();
     largest_job();
+    largest_line();
     shelf_refusals();
     length_refusals();
     printf("%d passed, %d failed\n", passed, failed);

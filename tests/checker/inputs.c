@@ -1,5 +1,6 @@
 /* Inputs for the checking program, made at random from a seed, and for each the line that the twin prints: inputs FOLDER SEED COUNT writes
- * FOLDER/i.in and FOLDER/i.line for each i below COUNT. Half of the inputs are whole; the others are damaged in a pack, in the length or anywhere. */
+ * FOLDER/i.in and FOLDER/i.line for each i below COUNT. Half of the inputs are whole; the others are damaged in a pack, in the length or anywhere.
+ * It prints how many of them are grids that are accepted. */
 #include <stdio.h>
 #include <stdlib.h>
 #include <string.h>
@@ -38,7 +39,8 @@ static void packs_of(struct random *r, const struct draft *draft, bool spoilt, s
         numbers_spoil_pack(r, &of_proposal, proposal);
 }
 
-static void input_make(struct random *r, struct bytes *out)
+/* The input, and whether its job, before any damage, is a grid. */
+static bool input_make(struct random *r, struct bytes *out)
 {
     static struct draft draft;
     static struct bytes job, proposal;
@@ -52,6 +54,7 @@ static void input_make(struct random *r, struct bytes *out)
     put_bytes(out, &proposal);
     if (damage == 4)
         bytes_spoil(r, out);
+    return draft.job.order_field == GRID;
 }
 
 static int store(const char *folder, int i, const char *kind, const void *at, size_t count)
@@ -72,15 +75,18 @@ int main(int count, char **arguments)
     static struct bytes input;
     static char line[TWIN_LINE_BYTES];
     struct random r;
-    int i, most;
+    int i, most, grids = 0;
     if (count != 4)
         return 2;
     r.state = strtoull(arguments[2], NULL, 10);
     most = atoi(arguments[3]);
     for (i = 0; i < most; i++) {
-        input_make(&r, &input);
-        if (store(arguments[1], i, "in", input.at, input.count) || store(arguments[1], i, "line", line, twin_line(input.at, input.count, line)))
+        bool grid = input_make(&r, &input);
+        size_t length = twin_line(input.at, input.count, line);
+        if (store(arguments[1], i, "in", input.at, input.count) || store(arguments[1], i, "line", line, length))
             return 1;
+        grids += grid && line[0] == '0';
     }
+    printf("%d\n", grids);
     return 0;
 }

@@ -1,6 +1,6 @@
 /* How long each call of the bench takes beside the twin's, and how much stack it uses. Both sides run in turns in one program, on the same input;
- * the median of the rounds counts. The argument says where it runs. With the argument `stack` it measures the stack alone, and ends with 1 if
- * a call uses more than include/bench.h says. */
+ * the median of the rounds counts. The argument says where it runs. With the argument `stack` it measures the stack alone. It ends with 1 if
+ * a call uses more stack than include/bench.h says of lines, or of grids. */
 #define _DEFAULT_SOURCE
 #include "../include/bench.h"
 #include "boundary/calls.h"
@@ -98,6 +98,13 @@ static void use_full(int64_t order)
     use_draft();
 }
 
+static void use_full_grid(int64_t columns, int64_t down, int64_t across)
+{
+    struct random random = {(uint64_t)columns};
+    draft_full_grid(&random, columns, down, across, &draft);
+    use_draft();
+}
+
 /* The processor's time, so that other programs on the machine count less. */
 static double now(void)
 {
@@ -188,10 +195,34 @@ static void same_work(enum function function, const char *input)
     put_back();
 }
 
-static bool measure(const char *input, bool stack_alone)
+/* The most stack that each call of the bench has used, on lines and on grids. */
+static size_t most_stack[2][FUNCTIONS];
+
+static void note_stack(enum function function, size_t bytes)
+{
+    size_t *most = &most_stack[draft.job.order_field == GRID][function];
+    *most = bytes > *most ? bytes : *most;
+}
+
+/* Whether that is as include/bench.h says. */
+static bool stack_within(void)
+{
+    bool within = true;
+    printf("%-9s%12s%12s\n", "stack", "lines", "grids");
+    for (int f = 0; f < FUNCTIONS; f++) {
+        printf("%-9s%12zu%12zu\n", call_names[f], most_stack[0][f], most_stack[1][f]);
+        within = within && most_stack[0][f] <= BENCH_LINE_STACK_BYTES && most_stack[1][f] <= BENCH_STACK_BYTES;
+    }
+    printf("%-9s%12d%12d\n", "at most", BENCH_LINE_STACK_BYTES, BENCH_STACK_BYTES);
+    if (!within)
+        printf("FAILED  a call uses more stack than that\n");
+    return within;
+}
+
+/* A line of the table for each call on the input that is in use. */
+static void measure(const char *input, bool stack_alone)
 {
     size_t none = stack_of(0, FUNCTIONS);
-    bool within = true;
     for (int f = 0; f < FUNCTIONS; f++) {
         enum function function = (enum function)f;
         struct timing timing = {0, 0, 0};
@@ -203,26 +234,27 @@ static bool measure(const char *input, bool stack_alone)
         put_back();
         size_t twin = stack_of(1, function) - none;
         put_back();
-        within = within && bench <= BENCH_STACK_BYTES;
+        note_stack(function, bench);
         printf("%-9s%-16s%12.0f%12.0f%8.2f%12zu%12zu\n", call_names[f], input, timing.bench, timing.twin, timing.ratio, bench, twin);
     }
-    return within;
 }
 
 int main(int argc, char **argv)
 {
-    bool stack_alone = argc > 1 && strcmp(argv[1], "stack") == 0, within = true;
+    bool stack_alone = argc > 1 && strcmp(argv[1], "stack") == 0;
     printf("%s\n", argc > 1 ? argv[1] : "somewhere");
     printf("Processor time in nanoseconds a call, the median of %d rounds in turns; stack in bytes. forget includes putting its table back.\n",
            ROUNDS);
     printf("%-9s%-16s%12s%12s%8s%12s%12s\n", "call", "input", "bench", "twin", "ratio", "stack", "twin's");
     use_full(4);
-    within = measure("full, order 4", stack_alone) && within;
+    measure("full, order 4", stack_alone);
     use_full(2);
-    within = measure("full, order 2", stack_alone) && within;
+    measure("full, order 2", stack_alone);
     use_small();
-    within = measure("n 3", stack_alone) && within;
-    if (!within)
-        printf("FAILED  a call uses more than %d bytes of stack\n", BENCH_STACK_BYTES);
-    return within ? 0 : 1;
+    measure("n 3", stack_alone);
+    use_full_grid(12, 4, 4);
+    measure("grid 10x12", stack_alone);
+    use_full_grid(2, 2, 1);
+    measure("grid 60x2", stack_alone);
+    return stack_within() ? 0 : 1;
 }

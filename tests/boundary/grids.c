@@ -14,21 +14,21 @@ static void draw_constants(struct random *r, struct twin_job *job, int64_t total
 
 void grid_largest(struct random *r, struct twin_job *job)
 {
-    static const int64_t columns[] = {2, 4, 10, 12, 15, 30};
-    int64_t across = columns[random_below(r, 6)];
-    int64_t rows = MOST_CELLS / across - random_below(r, 2);
-    shape_grid(job, rows, across, smaller(MOST_ORDER, rows - 1), smaller(MOST_ORDER, across - 1));
+    static const int64_t some[] = {2, 4, 10, 12, 15, 30};
+    int64_t columns = some[random_below(r, 6)];
+    int64_t rows = MOST_CELLS / columns - random_below(r, 2);
+    shape_grid(job, rows, columns, smaller(MOST_ORDER, rows - 1), smaller(MOST_ORDER, columns - 1));
     draw_constants(r, job, 1000 - random_below(r, 3));
 }
 
-/* The steps in which positive weights stand: far apart one way, and the other way near or only in the first cells. */
+/* The long way, down or across, positive weights stand far apart or in the first cells alone; the short way in each cell or every other. */
 void grid_pivots(struct random *r, struct twin_job *job)
 {
-    bool wide = random_chance(r, 25), upright = random_chance(r, 60);
+    bool wide = random_chance(r, 25), upright = !wide && random_chance(r, 60);
     int64_t columns = wide ? random_between(r, 13, 24) : upright ? random_between(r, 2, 4) : random_between(r, 5, 12);
-    int64_t rows = wide || !upright ? random_between(r, 2, 4) : random_between(r, 8, random_chance(r, 80) ? 16 : 30);
+    int64_t rows = upright ? random_between(r, 8, random_chance(r, 80) ? 16 : 30) : random_between(r, 2, 4);
     int64_t far = random_chance(r, 40) ? random_between(r, 4, 12) : MOST_CELLS, near = random_between(r, 1, 2);
-    int64_t step_down = upright && !wide ? far : near, step_across = upright && !wide ? near : far;
+    int64_t step_down = upright ? far : near, step_across = upright ? near : far;
     int64_t down = shape_draw_order(r, rows);
     shape_grid(job, rows, columns, down, shape_draw_order(r, columns));
     draw_constants(r, job, random_chance(r, 60) ? 1000 : random_between(r, 100, 1000));

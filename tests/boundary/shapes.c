@@ -49,8 +49,8 @@ static int64_t draw_constant(struct random *r, int64_t most)
 static const struct extent {
     int64_t share, least_columns, most_columns, least_rows, most_rows;
 } EXTENTS[] = {
-    {430, 2, 4, 2, 4},    {290, 2, 6, 2, 8},    {130, 13, 16, 2, 4},  {40, 17, 60, 2, 7}, {60, 12, 12, 2, 4},
-    {35, 2, 12, 2, 60},   {6, 12, 12, 10, 10},  {3, 2, 2, 60, 60},    {3, 60, 60, 2, 2},  {3, 10, 10, 12, 12},
+    {430, 2, 4, 2, 4},  {290, 2, 6, 2, 8},   {130, 13, 16, 2, 4}, {40, 17, 60, 2, 7}, {60, 12, 12, 2, 4},
+    {35, 2, 12, 2, 60}, {6, 12, 12, 10, 10}, {3, 2, 2, 60, 60},   {3, 60, 60, 2, 2},  {3, 10, 10, 12, 12},
 };
 
 void shape_draw_grid(struct random *r, struct twin_job *job)
@@ -106,10 +106,15 @@ static void keep_in_row(struct twin_job *job, int64_t row, int64_t kept, bool fi
     }
 }
 
-/* A shape that is broken already has no rows to speak of. */
+/* Whether rows and columns are still those of the cells: a shape is not broken twice, nor starved when it is broken. */
+static bool is_whole(const struct twin_job *job)
+{
+    return job->rows <= job->cells && job->columns <= job->cells && job->rows * job->columns == job->cells;
+}
+
 void shape_starve(struct random *r, struct twin_job *job)
 {
-    if (job->rows > job->cells || job->columns != job->cells / job->rows)
+    if (!is_whole(job))
         return;
     int64_t enough = random_chance(r, 60) ? job->down - 1 : random_below(r, job->down);
     bool fill = random_chance(r, 60);
@@ -138,6 +143,8 @@ static void exchange(int64_t *a, int64_t *b)
 
 void shape_break(struct random *r, struct twin_job *job)
 {
+    if (!is_whole(job))
+        return;
     switch (random_below(r, 10)) {
     case 0: job->rows += random_chance(r, 50) ? 1 : random_below(r, job->cells); break;
     case 1: exchange(&job->rows, &job->columns); break;

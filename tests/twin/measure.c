@@ -1,4 +1,4 @@
-/* Loss and gap (document 01): what the check computes of a job and a proposal, and its refusals 7, 8 and 9. */
+/* Loss and gap (document 01; of grids document 02, W-205): what the check computes of a job and a proposal, and its refusals 7, 8 and 9. */
 #include "parts.h"
 
 const int64_t twin_row[MOST_ORDER + 1][MOST_ORDER + 1] = {

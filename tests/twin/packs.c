@@ -1,5 +1,6 @@
-/* Packs (document 01, "Packs" and "Numbers allowed"): one walk along a job's numbers, whether they come as bytes or as the writer's words,
- * so that the writer refuses as reading its pack would. The steps for one number are inline: the bench's speed is held against the twin's. */
+/* Packs (document 01, "Packs" and "Numbers allowed"; document 02, W-205): one walk along a job's numbers, whether they come as bytes or as the
+ * writer's words, so that the writer refuses as reading its pack would. The steps for one number are inline: the bench's speed is held against
+ * the twin's. */
 #include "parts.h"
 
 /* Where numbers come from: bytes, or words if `bytes` is null. `at` and `start` count bytes in both cases. */

@@ -1,4 +1,4 @@
-/* The twin: the bench's eight calls once more in plain C, written from document 01 alone, to compare the bench with.
+/* The twin: the bench's eight calls once more in plain C, written from the documents alone, to compare the bench with.
  * Each call takes, answers and writes what include/bench.h says of the bench's call of the same name. */
 #ifndef TWIN_H
 #define TWIN_H

@@ -20,7 +20,7 @@ class Checked:
     """A job of the input with its proposal, the line that was printed, and the solver's optimum."""
 
     def __init__(self, case, line, optimum):
-        job, proposal = packs.packs_of(case)
+        job, proposal = packs.parts_of(case)
         self.job = packs.job_of(job)
         self.values, self.multipliers = packs.proposal_of(proposal, self.job)
         self.told, self.optimum = [int(x) for x in line.split()], optimum

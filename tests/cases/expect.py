@@ -138,15 +138,18 @@ def check():
         print(line)
     return len(made) + 2 + len(by_hand()) - len(wrong), len(wrong)
 
-def main(command, *given):
-    if command == '--check':
+def main(command=None, *given):
+    if command is None:
+        write(cases(solved()))
+    elif command == '--check':
         passed, failed = check()
         print(f'{passed} passed, {failed} failed')
         sys.exit(1 if failed else 0)
-    if command == '--random':
+    elif command == '--random':
         count, seed, stdin, stdout = given
-        return write(with_lines(grids.random_cases(int(count), int(seed))), Path(stdin), Path(stdout))
-    write(cases(solved()))
+        write(with_lines(grids.random_cases(int(count), int(seed))), Path(stdin), Path(stdout))
+    else:
+        sys.exit(__doc__)
 
 if __name__ == '__main__':
-    main(*sys.argv[1:] or [''])
+    main(*sys.argv[1:])

@@ -1,8 +1,7 @@
 """Grids (W-205) for the program of crates/cases: some worked out by hand, each with the numbers that it must print, and random ones, good and spoilt."""
 import random
+from house.expect import ROOM
 from packs import Grid, Job, check_case, house_case, number, numbers, proposal_pack
-
-ROOM = 1024
 
 # ---- the select table of docs/SELECT-TABLE.md: the figures are those of that page
 

@@ -13,8 +13,8 @@ COLUMNS = 12
 
 # ---- the house proposal
 
-def matrix(job):
-    """W + kK'K, and of a grid the same for both directions."""
+def matrix(job, differences=differences):
+    """W + kK'K, where K'K of a grid has a part for each direction with its own constant."""
     n = len(job.cells)
     a = [[0] * n for _ in range(n)]
     for i, (_, w, _, _) in enumerate(job.cells):

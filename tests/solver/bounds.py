@@ -71,7 +71,7 @@ def gathered(job, links, floors, ceilings):
     rest += sum(down * lo - up * hi for down, up, (_, _, lo, hi) in zip(floors, ceilings, job.cells))
     return g, rest
 
-def band(job):
+def band(job, differences=differences):
     """How far apart the cells of a difference can be."""
     return max(terms[-1][0] - terms[0][0] for _, terms in differences(job))
 

@@ -94,16 +94,17 @@ def by_rows():
     return [refused(pack, 4, 0) for pack in thin] + [accepted(pack, n) for pack, n in enough] + [refused(floor, 3, 15)]
 
 def wide():
-    """The house proposal covers 12 columns. 20 comes after all that the job pack can be refused for, and before the room; the check has no such limit."""
+    """The house proposal covers 12 columns. 20 comes after all that the job pack can be refused for, and before data too thin and the room; the check
+    has no such limit."""
     twelve, thirteen = flat(Grid(2, 12, 1, 4, 1)), flat(Grid(2, 13, 1, 4, 1))
-    one, two = '1110000000000', '0000000000000'
     return [
         (house_case(twelve, 24), [0, 24] + [5] * 24),
         (house_case(twelve, 23), [13, 24]),
         (house_case(thirteen, 0), [20, 0]),
         (house_case(thirteen + b'\0', 0), [1, len(thirteen)]),
         (house_case(flat(Grid(2, 13, 1, 4, 1), links=[([(1, 1), (0, 1)], 0)]), 0), [5, 0]),
-        (house_case(weighted(1, 4, one, two, columns=13), 0), [4, 0]),
+        (house_case(weighted(1, 4, '1110000000000', '0000000000000', columns=13), 0), [4, 0]),
+        (barely(Grid(9, 13, 4, 1, 1), 999), [20, 0]),
         (house_case(flat(Grid(13, 2, 4, 1, 1)), 26), [0, 26] + [5] * 26),
         accepted(thirteen, 26),
     ]

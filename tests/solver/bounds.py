@@ -6,10 +6,10 @@ rounded to multiples of 1/d and mended.
 Its lower end is the least value of the Lagrangian, or 0 if that is more: the loss, and on top the excess of each link, floor and ceiling times a
 multiplier that is 0 or more. At a table that meets the job no excess is above 0, so the Lagrangian is not above the loss there, and its least value
 over all tables whatever is not above the least loss. It is the value at the one table v with Av = Wu - g/2, A the house's matrix and g the
-multipliers' part of the gradient. A is positive definite: a table whose differences are all 0 is, along each row, a polynomial of degree below the
-order across, so a row with that many positive weights has only zeros if the fit is 0 too; and down each column it is one of degree below the order
-down, so that many such rows leave the table of zeros alone. (Of a line, each row is a cell.) The system is solved in exact whole numbers. Any
-multipliers give a certain end; the solver's give a near one.
+multipliers' part of the gradient. A is positive definite: where v'Av is 0, all differences are 0, and so is every cell with a positive weight. Along
+each row v is then a polynomial of degree below the order across, so a row with that many positive weights is 0; down each column it is one of degree
+below the order down, and that many such rows (refusal 4 sees to them) leave the table of zeros alone. Of a line, each row is a cell. The system is
+solved in exact whole numbers. Any multipliers give a certain end; the solver's give a near one.
 """
 from fractions import Fraction
 from itertools import zip_longest

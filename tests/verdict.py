@@ -1,24 +1,34 @@
-"""Loss, gap and the check's verdict by document 01 ("Loss and gap", "Order"), in Python's whole numbers, which have no limit and never wrap."""
+"""Loss, gap and the check's verdict by document 01 ("Loss and gap", "Order") and W-205, in Python's whole numbers, which have no limit and never
+wrap."""
+from packs import Refused, job_of, proposal_of
 
 ROWS = {1: [-1, 1], 2: [1, -2, 1], 3: [-1, 3, -3, 1], 4: [1, -4, 6, -4, 1]}
 LIMIT = 2000000000
 
-def differences(job, v):
-    row = ROWS[job.order_used()]
-    return [sum(s * v[i + m] for m, s in enumerate(row)) for i in range(len(v) - len(row) + 1)]
+def differences(job):
+    """Every difference of a job, as its constant and its terms, by rows and columns: those down the columns with k, then those along the rows with
+    the second constant. A line is one column."""
+    rows, columns, down, across, second = job.shape
+    cell = lambda row, column: row * columns + column
+    out = [(job.k, [(cell(row + m, column), s) for m, s in enumerate(ROWS[down])])
+           for row in range(rows - down) for column in range(columns)]
+    return out + [(second, [(cell(row, column + m), s) for m, s in enumerate(ROWS[across])])
+                  for row in range(rows) for column in range(columns - across)]
 
-def loss(job, v):
-    fit = sum(w * (x - u) ** 2 for x, (u, w, _, _) in zip(v, job.cells))
-    return fit + job.k * sum(d * d for d in differences(job, v))
-
-def link_sum(terms, v):
+def term_sum(terms, v):
+    """The sum of coefficient times rate over the terms of a difference or a link."""
     return sum(s * v[c] for c, s in terms)
 
-def residuals(job, v, multipliers):
+def loss(job, v, differences=differences):
+    fit = sum(w * (x - u) ** 2 for x, (u, w, _, _) in zip(v, job.cells))
+    return fit + sum(constant * term_sum(terms, v) ** 2 for constant, terms in differences(job))
+
+def residuals(job, v, multipliers, differences=differences):
     r = [2 * w * (x - u) for x, (u, w, _, _) in zip(v, job.cells)]
-    for i, d in enumerate(differences(job, v)):
-        for m, s in enumerate(ROWS[job.order_used()]):
-            r[i + m] += 2 * job.k * d * s
+    for constant, terms in differences(job):
+        d = term_sum(terms, v)
+        for c, s in terms:
+            r[c] += 2 * constant * d * s
     for (terms, _), y in zip(job.links, multipliers):
         for c, s in terms:
             r[c] += y * s
@@ -37,10 +47,10 @@ def cell_terms(job, v, r):
     return [cell_term(x, rate, w, lo, hi) for x, rate, (_, w, lo, hi) in zip(r, v, job.cells)]
 
 def link_terms(job, v, multipliers):
-    return [y * (b - link_sum(terms, v)) for (terms, b), y in zip(job.links, multipliers)]
+    return [y * (b - term_sum(terms, v)) for (terms, b), y in zip(job.links, multipliers)]
 
-def gap(job, v, multipliers):
-    return sum(cell_terms(job, v, residuals(job, v, multipliers))) + sum(link_terms(job, v, multipliers))
+def gap(job, v, multipliers, differences=differences):
+    return sum(cell_terms(job, v, residuals(job, v, multipliers, differences))) + sum(link_terms(job, v, multipliers))
 
 def verdict(job, v, multipliers):
     """Number, place, F and G for two packs that read well."""
@@ -48,7 +58,15 @@ def verdict(job, v, multipliers):
         if not lo <= x <= hi:
             return [7, i, 0, 0]
     for j, (terms, b) in enumerate(job.links):
-        if link_sum(terms, v) > b:
+        if term_sum(terms, v) > b:
             return [8, j, 0, 0]
     g = gap(job, v, multipliers)
     return [9, 0, 0, 0] if g > job.tolerance else [0, 0, loss(job, v), g]
+
+def checked(job_pack, proposal_pack):
+    """Number, place, F and G for any two packs."""
+    try:
+        job = job_of(job_pack)
+        return verdict(job, *proposal_of(proposal_pack, job))
+    except Refused as refused:
+        return [*refused.args, 0, 0]

@@ -1,24 +1,28 @@
 #!/usr/bin/env python3
 """What the program of crates/cases is run on and has to print, computed apart from the crates.
 
-  tests/cases/expect.py          writes crates/cases/stdin and crates/cases/stdout
-  tests/cases/expect.py --check  compares them: the last line counts the stored cases that are, and are not, what is made here
+  tests/cases/expect.py                             writes crates/cases/stdin and crates/cases/stdout
+  tests/cases/expect.py --check                     compares them: the last line counts the stored cases that are, and are not, what is made here
+  tests/cases/expect.py --random N SEED IN OUT      writes N random proposals and N random checks of grids, and the lines that they must print;
+                                                    the program takes at most 10,000 cases
 
-First come the house proposals of `tests/house/expect.py`, then document 01's tables worked by hand, refusals and limits of the check, then the grids of
-`tests/grids/compare.py`, and last the solver's jobs, one for each line of `tests/solver/optima`. Those are kept as they are stored: only their lines are computed.
+First come the house proposals of `tests/house/expect.py`, then what is worked out by hand: document 01's tables, refusals, and the grids of
+`tests/cases/grids.py`; then limits and random grids, and last the solver's jobs, one for each line of `tests/solver/optima`. Those are kept as they are
+stored: only their lines are computed.
 """
 import sys
 from pathlib import Path
 
 sys.path.insert(0, str(Path(__file__).resolve().parents[1]))
 import packs
-from grids import compare as grids
+from cases import grids
 from house import expect as house
 from packs import Job, check_case, house_case, number, proposal_pack
 from solver.optima import optima
-from verdict import verdict
+from verdict import checked
 
 MOST = 10 ** 15
+SELECT_TABLE = packs.ROOT / 'tests' / 'checker' / 'select-table'
 
 # ---- document 01, "Tables worked by hand": the figures are the document's
 
@@ -72,13 +76,13 @@ def refused():
     return made
 
 def limits():
-    """Jobs at the limits of document 01, "Numbers allowed": job, values, multipliers."""
+    """Checks at the limits of document 01, "Numbers allowed"."""
     million = 10 ** 6
     largest = [(million - x, 1000, x, x) for i in range(120) for x in [million * (i % 2)]]
     steep = [(0, 1000, 0, million), (million, 1000, 0, million)]
     held = [([(0, 1)], million)]
     heavy = [([(0, 10), (1, 10), (2, 10), (3, 10)], 4 * 10 ** 7)] * 160
-    return [
+    made = [
         (Job(4, 1000, largest, tolerance=0), [million * (i % 2) for i in range(120)], []),
         (Job(1, 1, steep, held, tolerance=MOST), [million] * 2, [0]),
         (Job(1, 1, steep, held, tolerance=MOST - 1), [million] * 2, [0]),
@@ -88,46 +92,64 @@ def limits():
         (Job(1, 1, [(0, 1, 0, million)] * 4, heavy, tolerance=MOST), [0] * 4, [10 ** 9] * 160),
         (Job(1, 1, [(0, 1, 0, million)] * 4, tolerance=MOST, society=7, job=2 ** 32 - 1), [0] * 4, []),
     ]
-
-def computed(job, values, multipliers):
-    return check_case(job.pack(), proposal_pack(values, multipliers)), verdict(job, values, multipliers)
+    return [check_case(job.pack(), proposal_pack(values, multipliers)) for job, values, multipliers in made]
 
 # ---- all cases
 
+def computed(case):
+    """The numbers of a case's line."""
+    return (house.answered if case[0] == packs.HOUSE else checked)(*packs.parts_of(case))
+
+def by_hand():
+    """The cases with lines that were worked out by hand."""
+    return [(house_case(pack, house.ROOM), told) for pack, told in house.refused()] + worked() + refused() + grids.by_hand()
+
 def solved():
-    """The solver's jobs as they are stored, each with its line."""
+    """The solver's jobs as they are stored."""
     count = len(optima())
-    made = []
-    for case in packs.cut(packs.STDIN.read_bytes())[-count:] if count else []:
-        job, proposal = packs.packs_of(case)
-        job = packs.job_of(job)
-        made.append(computed(job, *packs.proposal_of(proposal, job)))
-    return made
+    return packs.cut(packs.STDIN.read_bytes())[-count:] if count else []
+
+def line(told):
+    return ' '.join(str(x) for x in told)
+
+def with_lines(cases):
+    return [(case, line(computed(case))) for case in cases]
 
 def cases(last):
-    made = house.cases() + worked() + refused() + [computed(*limit) for limit in limits()] + grids.cases(60, 205) + last
-    return [(case, ' '.join(str(x) for x in told)) for case, told in made]
+    """All cases with their lines."""
+    middle = [(case, line(told)) for case, told in by_hand()]
+    return with_lines(house.cases()) + middle + with_lines(limits() + grids.extremes() + grids.random_cases(60, 205) + last)
 
-def write(last):
-    made = cases(last)
-    packs.STDIN.write_bytes(b''.join(case for case, _ in made))
-    packs.STDOUT.write_text(''.join(line + '\n' for _, line in made))
+def write(made, stdin=packs.STDIN, stdout=packs.STDOUT):
+    stdin.write_bytes(b''.join(case for case, _ in made))
+    stdout.write_text(''.join(line + '\n' for _, line in made))
 
 def check():
-    """Counts the cases, and the tables worked by hand on which `tests/verdict.py` has to say the same."""
+    """Counts the cases, and what was worked out by hand, on which the scripts have to say the same."""
     made = cases(solved())
     stored = list(zip(packs.cut(packs.STDIN.read_bytes()), packs.STDOUT.read_text().splitlines()))
     wrong = [f'case {i + 1} is not what is computed' for i, x in enumerate(made) if stored[i:i + 1] != [x]]
     if b''.join(case for case, _ in made) != packs.STDIN.read_bytes() or len(made) != len(packs.STDOUT.read_text().splitlines()):
         wrong.append('more or less is stored than the cases')
-    wrong += [f'a table worked by hand: {told}' for job, v, y, told in tables() if verdict(job, v, y) != told]
+    if SELECT_TABLE.read_bytes() != grids.select_input():
+        wrong.append(f'{SELECT_TABLE.name} is not the input of the select table')
+    wrong += [f'worked out by hand: {told}, computed: {computed(case)}' for case, told in by_hand() if computed(case) != told]
     for line in wrong:
         print(line)
-    return len(made) + 1 + len(tables()) - len(wrong), len(wrong)
+    return len(made) + 2 + len(by_hand()) - len(wrong), len(wrong)
 
-if __name__ == '__main__':
-    if sys.argv[1:] == ['--check']:
+def main(command=None, *given):
+    if command is None:
+        write(cases(solved()))
+    elif command == '--check':
         passed, failed = check()
         print(f'{passed} passed, {failed} failed')
         sys.exit(1 if failed else 0)
-    write(solved())
+    elif command == '--random':
+        count, seed, stdin, stdout = given
+        write(with_lines(grids.random_cases(int(count), int(seed))), Path(stdin), Path(stdout))
+    else:
+        sys.exit(__doc__)
+
+if __name__ == '__main__':
+    main(*sys.argv[1:])

@@ -1,35 +1,36 @@
-"""The house proposal's outcomes, computed apart from the crates, from document 01 ("The house proposal") alone.
+"""The house proposal's outcomes, computed apart from the crates, from document 01 ("The house proposal") and W-205 alone.
 
-A Python float is an IEEE double, and each operation on it is rounded once: no multiply-add is fused. The matrix is made from all difference
-rows as whole numbers, without a band. `tests/cases/expect.py` runs and stores the cases made here.
+A Python float is an IEEE double, and each operation on it is rounded once: no multiply-add is fused. The matrix is made from all differences
+as whole numbers, without a band. `tests/cases/expect.py` runs and stores the cases made here.
 """
 import math
 from fractions import Fraction
-from packs import Job, house_case, number
-from verdict import ROWS
+from packs import Job, Refused, house_case, job_of, proposal_pack
+from verdict import differences
 
 ROOM = 1024
+COLUMNS = 12
 
 # ---- the house proposal
 
-def matrix(n, z, k, w):
+def matrix(job, differences=differences):
+    """W + kK'K, where K'K of a grid has a part for each direction with its own constant."""
+    n = len(job.cells)
     a = [[0] * n for _ in range(n)]
-    for i in range(n):
-        a[i][i] = w[i]
-    for r in range(n - z):
-        for p, s in enumerate(ROWS[z]):
-            for q, t in enumerate(ROWS[z]):
-                a[r + p][r + q] += k * s * t
+    for i, (_, w, _, _) in enumerate(job.cells):
+        a[i][i] = w
+    for constant, terms in differences(job):
+        for c, s in terms:
+            for d, t in terms:
+                a[c][d] += constant * s * t
     return a
 
 def values(job):
     """The values before rounding, or the cell that is thin."""
-    n, z = len(job.cells), job.order_used()
-    w = [c[1] for c in job.cells]
-    return solved(matrix(n, z, job.k, w), z, [c[0] * c[1] for c in job.cells])
+    return solved(matrix(job), job.shape.down * job.shape.columns, [u * w for u, w, _, _ in job.cells])
 
 def solved(a, z, right):
-    """The same of any matrix, by the steps of a band z wide."""
+    """The same of a matrix, by the steps of a band z wide; the band of a grid has zeros in it, and the steps go over them."""
     n = len(a)
     low = [[0.0] * n for _ in range(n)]
     d = [0.0] * n
@@ -68,13 +69,21 @@ def rounded(v, lo, hi):
     return math.floor(Fraction(v) + Fraction(1, 2))
 
 def outcome(job, room):
-    return told(job.cells, len(job.links), *values(job), room)
-
-def told(cells, links, v, thin, room):
+    """Number, place and, where it is done, the bytes of the proposal pack, for a job that was read."""
+    if job.shape.columns > COLUMNS:
+        return [20, 0]
+    v, thin = values(job)
     if v is None:
         return [10, thin]
-    out = b''.join(number(rounded(x, c[2], c[3])) for x, c in zip(v, cells)) + bytes(links)
+    out = proposal_pack([rounded(x, lo, hi) for x, (_, _, lo, hi) in zip(v, job.cells)], [0] * len(job.links))
     return [13, len(out)] if len(out) > room else [0, len(out), *out]
+
+def answered(pack, room):
+    """The same for any job pack."""
+    try:
+        return outcome(job_of(pack), room)
+    except Refused as refused:
+        return list(refused.args)
 
 # ---- the cases
 
@@ -142,6 +151,4 @@ def refused():
     ]
 
 def cases():
-    """The cases with the numbers of their lines: number, place and, where it is done, the bytes of the proposal pack."""
-    made = [(house_case(job.pack(), room), outcome(job, room)) for job, room in proposed()]
-    return made + [(house_case(pack, ROOM), told) for pack, told in refused()]
+    return [house_case(job.pack(), room) for job, room in proposed()]

@@ -5,17 +5,21 @@ rounded to multiples of 1/d and mended.
 
 Its lower end is the least value of the Lagrangian, or 0 if that is more: the loss, and on top the excess of each link, floor and ceiling times a
 multiplier that is 0 or more. At a table that meets the job no excess is above 0, so the Lagrangian is not above the loss there, and its least value
-over all tables whatever is not above the least loss. It is the value at the one table v with (W + kK'K)v = Wu - g/2, g the multipliers' part of the
-gradient: the matrix is positive definite, for a table whose differences are 0 is a polynomial of degree below z, and z positive weights leave only
-the table of zeros of those. The system is solved in exact fractions. Any multipliers give a certain end; the solver's give a near one.
+over all tables whatever is not above the least loss. It is the value at the one table v with Av = Wu - g/2, A the house's matrix and g the
+multipliers' part of the gradient. A is positive definite: where v'Av is 0, all differences are 0, and so is every cell with a positive weight. Along
+each row v is then a polynomial of degree below the order across, so a row with that many positive weights is 0; down each column it is one of degree
+below the order down, and that many such rows (refusal 4 sees to them) leave the table of zeros alone. Of a line, each row is a cell. The system is
+solved in exact whole numbers. Any multipliers give a certain end; the solver's give a near one.
 """
 from fractions import Fraction
-from verdict import ROWS, link_sum, loss
+from itertools import zip_longest
+from house.expect import matrix
+from verdict import differences, loss, term_sum
 
-GRID = 2 ** 20
+PARTS = 2 ** 20
 
 def excess(job, x, d):
-    return [max(0, link_sum(terms, x) - b * d) for terms, b in job.links]
+    return [max(0, term_sum(terms, x) - b * d) for terms, b in job.links]
 
 def moves(job, x, d, terms, over):
     """The tables, each one cell away, that make a broken link hold, or nearly: as far as the cell's box allows."""
@@ -67,38 +71,35 @@ def gathered(job, links, floors, ceilings):
     rest += sum(down * lo - up * hi for down, up, (_, _, lo, hi) in zip(floors, ceilings, job.cells))
     return g, rest
 
-def banded(job):
-    """W + kK'K, as a list of its entries below and on the diagonal: entry m of row i is that of cells i and i-m."""
-    row, z = ROWS[job.order_used()], job.order_used()
-    a = [[w] + [0] * z for _, w, _, _ in job.cells]
-    for start in range(len(job.cells) - z):
-        for p in range(z + 1):
-            for q in range(p + 1):
-                a[start + p][p - q] += job.k * row[p] * row[q]
-    return a
+def band(job, differences=differences):
+    """How far apart the cells of a difference can be."""
+    return max(terms[-1][0] - terms[0][0] for _, terms in differences(job))
 
-def solved(a, right):
-    """The solution of a banded system, by elimination in exact fractions."""
-    n, z = len(a), len(a[0]) - 1
-    upper = [[Fraction(a[i + m][m]) if i + m < n else Fraction(0) for m in range(z + 1)] for i in range(n)]
-    right = [Fraction(x) for x in right]
-    for i in range(n):
-        for m in range(1, min(z, n - 1 - i) + 1):
-            factor = upper[i][m] / upper[i][0]
-            for q in range(m, z + 1):
-                upper[i + m][q - m] -= factor * upper[i][q]
-            right[i + m] -= factor * right[i]
-    x = [Fraction(0)] * n
+def solved(a, band, right):
+    """The solution of a positive definite system in whole numbers, as whole parts of one number, by elimination without fractions: after each step
+    the entries left are minors of the matrix, so the division by the pivot before is exact. A row below the band is first touched when the band
+    reaches it; until then its entries are its first ones times that pivot."""
+    n, before = len(a), 1
+    rows, right = [a[i][i:i + band + 1] for i in range(n)], list(right)
+    for i, row in enumerate(rows):
+        if 0 < i < n - band:
+            rows[i + band], right[i + band] = [before * x for x in rows[i + band]], before * right[i + band]
+        pivot = row[0]
+        for m, factor in enumerate(row[1:], 1):
+            rows[i + m] = [(pivot * x - factor * y) // before for x, y in zip_longest(rows[i + m], row[m:], fillvalue=0)]
+            right[i + m] = (pivot * right[i + m] - factor * right[i]) // before
+        before = pivot
+    x = [0] * n
     for i in reversed(range(n)):
-        x[i] = (right[i] - sum(upper[i][m] * x[i + m] for m in range(1, min(z, n - 1 - i) + 1))) / upper[i][0]
-    return x
+        x[i] = (before * right[i] - sum(s * t for s, t in zip(rows[i][1:], x[i + 1:]))) // rows[i][0]
+    return x, before
 
 def whole_parts(multipliers):
-    return [max(Fraction(0), Fraction(round(y * GRID), GRID)) for y in multipliers]
+    return [max(0, round(y * PARTS)) for y in multipliers]
 
 def lower_end(job, links, floors, ceilings):
-    """The Lagrangian's least value, for a solver's multipliers of links, floors and ceilings."""
-    links, floors, ceilings = (whole_parts(y) for y in (links, floors, ceilings))
-    g, rest = gathered(job, links, floors, ceilings)
-    v = solved(banded(job), [w * u - x / 2 for (u, w, _, _), x in zip(job.cells, g)])
-    return max(Fraction(0), loss(job, v) + sum(x * y for x, y in zip(g, v)) + rest)
+    """The Lagrangian's least value, for a solver's multipliers of links, floors and ceilings in parts of 1/PARTS."""
+    g, rest = gathered(job, *(whole_parts(y) for y in (links, floors, ceilings)))
+    x, d = solved(matrix(job), band(job), [2 * PARTS * w * u - y for (u, w, _, _), y in zip(job.cells, g)])
+    v = [Fraction(y, 2 * PARTS * d) for y in x]
+    return max(Fraction(0), loss(job, v) + (sum(y * z for y, z in zip(g, v)) + rest) / PARTS)

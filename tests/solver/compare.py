@@ -3,6 +3,7 @@
 
 Each job's line has to be document 01's verdict, computed here from the stored packs. The least loss of all tables that meet the job lies in the
 interval of tests/solver/optima; if a job is accepted with F and G, it has to lie between F - G and F too. A refused job has to be refused with 9.
+Some wrong losses and gaps, some of them of grids alone, have to be told by the optima in at least one job.
 The last line is 'N passed, M failed': one count a job, and one for each wrong line, loss or gap that has to be noticed.
 """
 import sys
@@ -13,14 +14,14 @@ from statistics import median
 sys.path.insert(0, str(Path(__file__).resolve().parents[1]))
 import packs
 from solver.optima import near, optima
-from solver.slips import SLIPS
+from solver.slips import SLIPS, WRONG_DIFFERENCES, best_of
 from verdict import gap, loss, verdict
 
 class Checked:
     """A job of the input with its proposal, the line that was printed, and the solver's optimum."""
 
     def __init__(self, case, line, optimum):
-        job, proposal = packs.packs_of(case)
+        job, proposal = packs.parts_of(case)
         self.job = packs.job_of(job)
         self.values, self.multipliers = packs.proposal_of(proposal, self.job)
         self.told, self.optimum = [int(x) for x in line.split()], optimum
@@ -70,28 +71,48 @@ def wrong_figures(jobs):
         out.append(None if any(told) else slip.__doc__)
     return out
 
-def report(jobs):
+def told_in_both(wrong, grids):
+    """In how many grids a wrong loss and gap are told, at the stored tables."""
+    return sum(not between(loss(x.job, x.values, wrong), gap(x.job, x.values, x.multipliers, wrong), x.optimum) for x in grids)
+
+def told_in_gap(wrong, grids):
+    """In how many grids a wrong gap is told beside the right loss, at the tables that it calls the best."""
+    tables = [(x, best_of(x.job, wrong)) for x in grids]
+    return sum(not between(loss(x.job, v), gap(x.job, v, [0] * len(x.job.links), wrong), x.optimum) for x, v in tables if v)
+
+def wrong_grids(grids):
+    """Wrong differences, which the optima of grids alone have to tell: None for each that is noticed, else what would pass."""
+    out = []
+    for wrong in WRONG_DIFFERENCES:
+        both, alone = told_in_both(wrong, grids), told_in_gap(wrong, grids)
+        print(f'{wrong.__doc__[:-1]}: told by the optimum in {both} of {len(grids)} grids, of the residual alone in {alone}')
+        out += [None if both else wrong.__doc__, None if alone else f'{wrong.__doc__[:-1]}, of the residual alone']
+    return out
+
+def report(what, jobs):
     accepted = [x for x in jobs if x.accepted()]
     shares = [x.told[3] / x.told[2] for x in accepted if x.told[2] > 0]
-    print(f'{len(jobs)} jobs, {len(accepted)} accepted, {len(jobs) - len(accepted)} refused')
-    print(f'G relative to F: median {median(shares):.2g}, largest {max(shares):.2g}')
+    print(f'{len(jobs)} {what}, {len(accepted)} accepted, {len(jobs) - len(accepted)} refused; '
+          f'G relative to F: median {median(shares):.2g}, largest {max(shares):.2g}')
 
 def main():
     stored, cases, lines = optima(), packs.cut(packs.STDIN.read_bytes()), packs.STDOUT.read_text().splitlines()
     if not stored or len(cases) != len(lines):
         sys.exit('the stored cases, lines and optima do not belong together')
     jobs = [Checked(*x) for x in zip(cases[-len(stored):], lines[-len(stored):], stored)]
+    grids = [x for x in jobs if x.job.is_grid()]
     passed = failed = 0
     for checked in jobs:
         wrong = faults(checked)
         for fault in wrong:
             print(f'job {checked.job.job} of society {checked.job.society}: {fault}')
         passed, failed = (passed, failed + 1) if wrong else (passed + 1, failed)
-    for wrong in wrong_lines(jobs) + wrong_figures(jobs):
+    for wrong in wrong_lines(jobs) + wrong_figures(jobs) + wrong_grids(grids):
         if wrong:
             print(f'not noticed: {wrong}')
         passed, failed = (passed, failed + 1) if wrong else (passed + 1, failed)
-    report(jobs)
+    report('lines', [x for x in jobs if not x.job.is_grid()])
+    report('grids', grids)
     print(f'{passed} passed, {failed} failed')
     sys.exit(1 if failed else 0)
 

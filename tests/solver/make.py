@@ -1,6 +1,8 @@
 #!/usr/bin/python3
 """Makes the solver's jobs: crates/cases/stdin's last part with its lines, and tests/solver/optima. Needs Debian's python3-cvxopt.
 
+  tests/solver/make.py lines grids     draws both parts anew; with one of the names the other part stays as it is stored
+
 A job from the dice is solved as a quadratic program. The values are rounded to whole rates that meet the job, the multipliers to whole numbers, and
 those are its proposal. A job is drawn again where the solver fails, the interval of its least loss is wide, no such rounding is found, or the gap
 says nothing. What is stored is the record: another version of the solver may find other figures.
@@ -11,14 +13,17 @@ from math import ceil, floor
 from pathlib import Path
 
 sys.path.insert(0, str(Path(__file__).resolve().parents[1]))
-from cvxopt import matrix, solvers
-from cases.expect import computed, write
-from solver.bounds import banded, gathered, lower_end, meeting, upper_end
+import cvxopt
+from cvxopt import solvers
+from cases import expect
+from house.expect import matrix
+from packs import Grid, check_case, job_of, parts_of, proposal_pack
+from solver.bounds import gathered, lower_end, meeting, upper_end
 from solver.jobs import job as drawn
-from solver.optima import OPTIMA, near
+from solver.optima import OPTIMA, near, texts
 from verdict import gap, loss
 
-SEED, MOST = 1, 10 ** 15
+MOST = 10 ** 15
 WIDE = 1e-8
 DIGITS = 6
 
@@ -26,18 +31,14 @@ solvers.options.update(show_progress=False, abstol=1e-14, reltol=1e-13, feastol=
 
 # ---- the solver
 
-def dense(job):
-    a, n = banded(job), len(job.cells)
-    return [[a[max(i, j)][abs(i - j)] if abs(i - j) < len(a[0]) else 0 for j in range(n)] for i in range(n)]
-
 def program(job, free, scale, weight):
     """The quadratic program of the cells with room in their boxes, in rates of `scale` and losses of scale^2 * weight: P, q, G, h and the
     links that are rows of G after the floors and ceilings."""
-    a = dense(job)
+    a = matrix(job)
     alone = [(i, lo) for i, (_, _, lo, hi) in enumerate(job.cells) if lo == hi]
     at = {c: p for p, c in enumerate(free)}
-    p = matrix([[2.0 * a[i][j] / weight for i in free] for j in free])
-    q = matrix([2.0 * (sum(a[i][c] * x for c, x in alone) - job.cells[i][1] * job.cells[i][0]) / scale / weight for i in free])
+    p = cvxopt.matrix([[2.0 * a[i][j] / weight for i in free] for j in free])
+    q = cvxopt.matrix([2.0 * (sum(a[i][c] * x for c, x in alone) - job.cells[i][1] * job.cells[i][0]) / scale / weight for i in free])
     rows = [{at[i]: -1.0} for i in free] + [{at[i]: 1.0} for i in free]
     h = [-job.cells[i][2] / scale for i in free] + [job.cells[i][3] / scale for i in free]
     used = [j for j, (terms, _) in enumerate(job.links) if any(c in at for c, _ in terms)]
@@ -45,8 +46,8 @@ def program(job, free, scale, weight):
         terms, b = job.links[j]
         rows.append({at[c]: float(s) for c, s in terms if c in at})
         h.append((b - sum(s * job.cells[c][2] for c, s in terms if c not in at)) / scale)
-    g = matrix([[row.get(c, 0.0) for row in rows] for c in range(len(free))])
-    return p, q, g, matrix(h), used
+    g = cvxopt.matrix([[row.get(c, 0.0) for row in rows] for c in range(len(free))])
+    return p, q, g, cvxopt.matrix(h), used
 
 def optimum(job):
     """The solver's values and its multipliers of links, floors and ceilings."""
@@ -64,7 +65,7 @@ def optimum(job):
     for place, j in enumerate(used):
         links[j] = found['z'][2 * len(free) + place] * scale * weight
     pull, _ = gathered(job, links, [0.0] * n, [0.0] * n)
-    for i, row in enumerate(dense(job)):
+    for i, row in enumerate(matrix(job)):
         if i not in free:
             slope = 2 * (sum(x * v for x, v in zip(row, values)) - job.cells[i][1] * job.cells[i][0]) + pull[i]
             floors[i], ceilings[i] = max(0.0, slope), max(0.0, -slope)
@@ -110,8 +111,8 @@ def tolerance(job, values, multipliers, turn):
         return g - 1
     return g if turn % 10 in (1, 2) else min(MOST, g + g // 4 + 10)
 
-def sizes(dice):
-    """Cells, order field and links of every job: small ones, ages of a life, and the largest."""
+def line_sizes(dice):
+    """Cells, order field and links of every line: small ones, ages of a life, and the largest."""
     for order in (0, 1, 2, 3, 4):
         z = order or 2
         yield z + 1, order, 2
@@ -121,6 +122,42 @@ def sizes(dice):
             for _ in range(count):
                 n = dice.randint(z + 1, most)
                 yield n, order, dice.randint(0, min(160, n + n // 2))
+
+LARGE = [
+    (10, 12, 4, 4, 160), (10, 12, 4, 4, 0), (12, 10, 4, 4, 160), (10, 12, 1, 1, 160), (10, 12, 2, 3, 160), (10, 10, 2, 2, 100), (8, 15, 3, 2, 120),
+    (15, 8, 2, 3, 120), (3, 40, 2, 4, 60), (40, 3, 4, 2, 60), (2, 60, 1, 4, 160), (2, 60, 1, 1, 0), (60, 2, 4, 1, 160), (60, 2, 1, 1, 0),
+]
+
+def lengths(dice, order, other, most):
+    """A length with room for an order, and one with room for the other, of at most so many cells together."""
+    length = dice.randint(order + 1, most // (other + 1))
+    return length, dice.randint(other + 1, most // length)
+
+def random_shape(dice, down, across, most):
+    """Rows and columns of a grid: as many are narrow as wide."""
+    if dice.random() < 0.5:
+        return lengths(dice, down, across, most)
+    columns, rows = lengths(dice, across, down, most)
+    return rows, columns
+
+def grid_shapes(dice):
+    """Rows, columns, orders and links of every grid: for each pair of orders the smallest, two of any shape, a narrow one, a wide one and one without
+    links; then large ones."""
+    for down in (1, 2, 3, 4):
+        for across in (1, 2, 3, 4):
+            narrow = dice.randint(down + 1, 120 // (across + 1)), across + 1
+            wide = down + 1, dice.randint(across + 1, 120 // (down + 1))
+            yield down + 1, across + 1, down, across, 2
+            for rows, columns in (random_shape(dice, down, across, 40), random_shape(dice, down, across, 120), narrow, wide):
+                n = rows * columns
+                yield rows, columns, down, across, dice.randint(1, min(160, n + n // 2))
+            yield *random_shape(dice, down, across, 120), down, across, 0
+    yield from LARGE
+
+def grid_sizes(dice):
+    """Cells, grid and links of every grid; its second constant is not set."""
+    for rows, columns, down, across, count in grid_shapes(dice):
+        yield rows * columns, Grid(rows, columns, down, across, 0), count
 
 def decimals(x, side):
     """A figure in decimals, rounded down or up."""
@@ -136,18 +173,38 @@ def kept(dice, size, again):
         except Again as reason:
             again[str(reason)] += 1
 
-def main():
-    dice, cases, again = random.Random(SEED), [], Counter()
-    lines = ['# society, job, cells, order field, links, the least loss as the solver has it, and two figures that it lies between\n']
-    for turn, size in enumerate(sizes(random.Random(SEED))):
+PARTS = {'lines': (1, line_sizes), 'grids': (2, grid_sizes)}
+
+def made(name, first, again):
+    """A part's jobs, numbered from `first`: for each its line of the optima and its case."""
+    seed, sizes = PARTS[name]
+    dice, out = random.Random(seed), []
+    for turn, size in enumerate(sizes(random.Random(seed)), first):
         job, values, multipliers, (figure, lower, upper) = kept(dice, size, again)
         job.society, job.job, job.tolerance = turn % 8, turn, tolerance(job, values, multipliers, turn)
-        cases.append(computed(job, values, multipliers))
         named = f'{job.society} {job.job} {len(job.cells)} {job.order} {len(job.links)}'
-        lines.append(f'{named} {figure:.{DIGITS}f} {decimals(lower, floor)} {decimals(upper, ceil)}\n')
-    OPTIMA.write_text(''.join(lines))
-    write(cases)
-    print(f'{len(cases)} jobs; drawn again: {dict(again)}')
+        text = f'{named} {figure:.{DIGITS}f} {decimals(lower, floor)} {decimals(upper, ceil)}'
+        out.append((text, check_case(job.pack(), proposal_pack(values, multipliers))))
+    return out
+
+def stored():
+    """Both parts as they are stored."""
+    parts = {'lines': [], 'grids': []}
+    for text, case in zip(texts(), expect.solved()):
+        parts['grids' if job_of(parts_of(case)[0]).is_grid() else 'lines'].append((text, case))
+    return parts
+
+def main(*names):
+    if not names or set(names) - set(PARTS):
+        sys.exit(__doc__)
+    parts, again = stored(), Counter()
+    for name in names:
+        parts[name] = made(name, 0 if name == 'lines' else len(parts['lines']), again)
+    jobs = parts['lines'] + parts['grids']
+    head = '# society, job, cells, order field, links, the least loss as the solver has it, and two figures that it lies between\n'
+    OPTIMA.write_text(head + ''.join(text + '\n' for text, _ in jobs))
+    expect.write(expect.cases([case for _, case in jobs]))
+    print(f'{len(jobs)} jobs; drawn again: {dict(again)}')
 
 if __name__ == '__main__':
-    main()
+    main(*sys.argv[1:])

@@ -18,7 +18,9 @@ class Optimum:
         self.named = [int(x) for x in fields[:5]]
         self.figure, self.lower, self.upper = (Fraction(x) for x in fields[5:])
 
+def texts():
+    """The stored lines."""
+    return [line for line in OPTIMA.read_text().splitlines() if not line.startswith('#')] if OPTIMA.exists() else []
+
 def optima():
-    if not OPTIMA.exists():
-        return []
-    return [Optimum(line) for line in OPTIMA.read_text().splitlines() if not line.startswith('#')]
+    return [Optimum(text) for text in texts()]

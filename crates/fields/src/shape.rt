@@ -49,13 +49,16 @@ pub fn after_order(n: u64, x: u64) -> Step
 fn are_columns(n: u64, rows: u64, x: u64) -> bool
     ensures { λ r. ⌜ r ≡ areColumns n rows x ⌝ }
 {
-    if is_within(2, crate::limits::CELLS, x) {
-        if n / x < rows {
-            return false;
-        }
-        return rows * x == n;
+    if x < 2 {
+        return false;
     }
-    false
+    if crate::limits::CELLS < x {
+        return false;
+    }
+    if n / x < rows {
+        return false;
+    }
+    rows * x == n
 }
 
 pub fn after_columns(n: u64, rows: u64, x: u64) -> Step

@@ -1,29 +1,30 @@
 -- Where the quotient has room for the rows, their product is at most n; where it has not, it is above n.
-use mathlib.Core.Path.{sym, _∙_}
 use native.Mathlib.Omega.{arith}
+use borrow.Author.Tests.{lt-leb, le-leb}
 use Rattle.fields.proofs.Tests.{too-many, rows-fit}
-use Rattle.fields.proofs.Rows.{within-both}
 use borrow.Author.Needs.{needs}
 use Rattle.fields.proofs.shape.are_columns.Statement.{statement}
 use Rattle.fields.proofs.shape.are_columns.Tie as tie
 
-is-within-requires : tie.Need-is-within-requires
-is-within-requires c κs = search needs
-
-div-if2 : tie.Need-div-if2
-div-if2 c = omega (arith, within-both 2 120 (c .before .before .args .x) (sym (c .before .is-within .ensures) ∙ c .if1 .taken))
-
 returns : tie.Need-returns
-returns c = let a = c .before .before .before .args in let w = within-both 2 120 (a .x) (sym (c .before .before .is-within .ensures) ∙ c .before .if1 .taken) in rw (← c .before .before .is-within .ensures, c .before .if1 .taken, too-many (a .n) (a .rows) (a .x) (w .0) (c .if2 .taken))
-
-mul-result : tie.Need-mul-result
-mul-result c = let a = c .before .before .before .args in let w = within-both 2 120 (a .x) (sym (c .before .before .is-within .ensures) ∙ c .before .if1 .taken) in omega (arith, rows-fit (a .n) (a .rows) (a .x) (w .0) (c .if2 .left))
+returns c = rw (lt-leb _ _ (c .if1 .taken))
 
 returns-2 : tie.Need-returns-2
-returns-2 c = rw (← c .before .before .is-within .ensures, c .before .if1 .taken)
+returns-2 c = rw (le-leb _ _ (c .before .if1 .left), lt-leb _ _ (c .if2 .taken))
+
+div-if3 : tie.Need-div-if3
+div-if3 c = search needs
 
 returns-3 : tie.Need-returns-3
-returns-3 c = rw (← c .before .is-within .ensures, c .if1 .left)
+returns-3 c =
+    let a = c .before .before .before .args in
+    rw (le-leb _ _ (c .before .before .if1 .left), le-leb _ _ (c .before .if2 .left), too-many (a .n) (a .rows) (a .x) (c .before .before .if1 .left) (c .if3 .taken))
+
+mul-result : tie.Need-mul-result
+mul-result c = let a = c .before .before .before .args in omega (arith, rows-fit (a .n) (a .rows) (a .x) (c .before .before .if1 .left) (c .if3 .left))
+
+returns-4 : tie.Need-returns-4
+returns-4 c = rw (le-leb _ _ (c .before .before .if1 .left), le-leb _ _ (c .before .if2 .left))
 
 pub are-columns-spec : {M : Type 1} → statement M
-are-columns-spec = tie.close (tie.spec is-within-requires div-if2 returns mul-result returns-2 returns-3)
+are-columns-spec = tie.close (tie.spec returns returns-2 div-if3 returns-3 mul-result returns-4)

@@ -29,12 +29,12 @@ houseOrder = 2
 abbrev pub orderUsed : ℕ → ℕ
 orderUsed x = if eqb x 0 then houseOrder else x
 
--- Two small numbers in one, the second below 8, so that a walk carries few: the quotient by 8 is the first, the remainder the second.
+-- Two small numbers in one, so that a walk carries few: the first is its quotient by 8, the second, below 8, its remainder.
 abbrev pub paired : (a b : ℕ) → ℕ
 paired a b = 8 * a + b
 
--- The first cell of n: what a row is, its columns and its order across; and what is wanted, as many rows as the order down, of which the cell's own
--- still lacks as many positive weights as the order across. An order that is not read yet is 0.
+-- The first of n cells. What a row is: its columns and the order across. What is wanted: as many rows as the order down, and as many positive weights
+-- as the order across, which the cell's own row still lacks. An order that is not read yet is 0.
 abbrev pub shaped : (n columns down across : ℕ) → Cells
 shaped n columns down across = record { n = n; row = paired columns across; want = paired down across; column = 0; cell = 0 }
 
@@ -42,7 +42,7 @@ shaped n columns down across = record { n = n; row = paired columns across; want
 abbrev pub areColumns : (n rows : ℕ) → ℕ → Bool
 areColumns n rows x = within 2 120 x && eqb (rows * x) n
 
--- "the order down, the order across (each 1..4, less than its length)", and so the order used along n cells
+-- W-205: "the order down, the order across (each 1..4, less than its length)"; document 01: "the order used is less than n".
 abbrev pub isOrder : (length : ℕ) → ℕ → Bool
 isOrder length x = within 1 4 x && ltb x length
 

@@ -7,7 +7,7 @@ use native.Mathlib.Nat as N
 use native.Mathlib.Omega.{arith}
 use borrow.Author.Tests.{leb-true}
 use lib.Dec.{leb}
-use lib.IntN.{ℤ, pos, natAbs}
+use lib.IntN.{ℤ, natAbs}
 use Rattle.numbers.specs.Choice.{if_then_else_}
 use Rattle.numbers.proofs.Clash.{clash}
 use Rattle.fields.specs.declared.Field.{Field}
@@ -21,7 +21,7 @@ use Rattle.jobs.proofs.Steps.{Steps}
 use Rattle.jobs.proofs.Shapes.{shapeAt, rows-line, columns-line, order-line, across-line, second-line, shape-line, rows-grid, columns-grid, order-grid, across-grid, second-grid, withColumns, withDown, withAcross, shape-grid}
 use Rattle.jobs.proofs.Places.{head-of-grid, head-of-line, head-some, start-zero}
 use Rattle.jobs.proofs.Taken.{At, at-first, at-place, at-field, row, next-is, plain}
-use Rattle.jobs.proofs.Cells.{AllCells, all-cells}
+use Rattle.jobs.proofs.Cells.{all-cells}
 use Rattle.jobs.proofs.Links.{AllLinks, all-links}
 
 -- the link count and the links

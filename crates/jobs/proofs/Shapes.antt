@@ -1,12 +1,12 @@
 -- The shape of a job by its words, where it is a grid and where it is none.
-use Prim.Native.Nat.{ℕ, _/_}
+use Prim.Native.Nat.{_/_}
 use mathlib.Core.Path.{_≡_, sym}
 use mathlib.Core.Bool.{true, false}
 use mathlib.Core.List.{List}
 use native.Mathlib.Omega.{arith}
 use lib.IntN.{ℤ, pos}
 use Rattle.fields.specs.declared.cells.Cells.{Cells}
-use Rattle.fields.specs.Table.{orderUsed, paired, shaped}
+use Rattle.fields.specs.Table.{orderUsed, shaped}
 use Rattle.jobs.specs.Words.{wordAt, countAt, cellsOf, isGrid, rowsOf, columnsOf, orderOf, acrossOf, secondOf}
 
 module _ (ws : List ℤ) where

@@ -1,6 +1,6 @@
 -- How far a walk along the table can go: every step takes one number off a field's budget, and the cell or link that a field stands in, which is the
 -- place of the table's own refusals, rises no faster than the budget falls.
-use Prim.Native.Nat.{ℕ, _+_, _-_, _*_, _≤_}
+use Prim.Native.Nat.{ℕ, _+_, _-_, _*_, _/_, _≤_}
 use mathlib.Core.Path.{_≡_, refl}
 use mathlib.Core.Bool.{Bool, true, false}
 use native.Mathlib.Omega.{arith}
@@ -9,12 +9,11 @@ use lib.Dec.{leb, ltb, eqb}
 use Rattle.numbers.specs.Choice.{if_then_else_}
 use Rattle.fields.specs.declared.cells.Cells.{Cells}
 use Rattle.fields.specs.declared.links.Links.{Links}
-use Rattle.fields.specs.declared.shape.Shape.{Shape}
 use Rattle.fields.specs.declared.Field.{Field}
 use Rattle.fields.specs.declared.Field.the-variants.{Society, Job, Count, Order, Rows, Columns, OrderDown, OrderAcross, SecondConstant, Constant, Tolerance, Crude, Weight, Floor, Ceiling, LinkCount, TermCount, Cell, Coefficient, Bound, Value, Multiplier, End}
 use Rattle.fields.specs.declared.Step.{Step}
 use Rattle.fields.specs.declared.Step.the-variants.{Next, NotAllowed, Refused}
-use Rattle.fields.specs.Table.{within, withinSigned, rule, orderUsed, lineOf, isLength, areColumns, isOrder, gridOf, withDown, withAcross, afterOrder, cellsFrom, lacking, inRow, nextRow, weighed, nextCell, afterCeiling, withTerms, afterCoefficient, linksFrom, multipliersFrom, valuesFrom, stepOf}
+use Rattle.fields.specs.Table.{within, withinSigned, rule, orderUsed, shaped, areColumns, isOrder, afterOrder, lacking, inRow, nextRow, weighed, nextCell, afterCeiling, withTerms, withLeast, afterCoefficient, linksFrom, multipliersFrom, valuesFrom, stepOf}
 use Rattle.fields.proofs.Rows.{within-both}
 
 -- ---- the most numbers that can follow, the field's own among them
@@ -39,11 +38,11 @@ budget Count = 2090
 budget (Order n) = 8 + cellNumbers n + linkNumbers
 budget (Rows n) = 7 + cellNumbers n + linkNumbers
 budget (Columns n rows) = 6 + cellNumbers n + linkNumbers
-budget (OrderDown s) = 5 + cellNumbers (s .n) + linkNumbers
-budget (OrderAcross s) = 4 + cellNumbers (s .n) + linkNumbers
-budget (SecondConstant s) = 3 + cellNumbers (s .n) + linkNumbers
-budget (Constant s second) = 2 + cellNumbers (s .n) + linkNumbers
-budget (Tolerance s) = 1 + cellNumbers (s .n) + linkNumbers
+budget (OrderDown c rows) = 5 + cellNumbers (c .n) + linkNumbers
+budget (OrderAcross c) = 4 + cellNumbers (c .n) + linkNumbers
+budget (SecondConstant c) = 7 + cellsLeft c
+budget (Constant c second) = 6 + cellsLeft c
+budget (Tolerance c) = 5 + cellsLeft c
 budget (Crude c) = 4 + cellsLeft c
 budget (Weight c) = 3 + cellsLeft c
 budget (Floor c) = 2 + cellsLeft c
@@ -51,7 +50,7 @@ budget (Ceiling c lo) = 1 + cellsLeft c
 budget (LinkCount n) = linkNumbers
 budget (TermCount l) = 10 + linksLeft l
 budget (Cell l) = 3 + 2 * (l .terms - 1) + linksLeft l
-budget (Coefficient l rises) = 2 + 2 * (l .terms - 1) + linksLeft l
+budget (Coefficient l) = 2 + 2 * (l .terms - 1) + linksLeft l
 budget (Bound l) = 1 + linksLeft l
 budget (Value left links) = 1 + (left - 1) + links
 budget (Multiplier left) = 1 + (left - 1)
@@ -59,13 +58,16 @@ budget End = 0
 
 -- the cell or the link that a field stands in
 abbrev pub standing : Field → ℕ
+standing (SecondConstant c) = c .cell
+standing (Constant c second) = c .cell
+standing (Tolerance c) = c .cell
 standing (Crude c) = c .cell
 standing (Weight c) = c .cell
 standing (Floor c) = c .cell
 standing (Ceiling c lo) = c .cell
 standing (TermCount l) = l .link
 standing (Cell l) = l .link
-standing (Coefficient l rises) = l .link
+standing (Coefficient l) = l .link
 standing (Bound l) = l .link
 standing Society = 0
 standing Job = 0
@@ -73,11 +75,8 @@ standing Count = 0
 standing (Order n) = 0
 standing (Rows n) = 0
 standing (Columns n rows) = 0
-standing (OrderDown s) = 0
-standing (OrderAcross s) = 0
-standing (SecondConstant s) = 0
-standing (Constant s second) = 0
-standing (Tolerance s) = 0
+standing (OrderDown c rows) = 0
+standing (OrderAcross c) = 0
 standing (LinkCount n) = 0
 standing (Value left links) = 0
 standing (Multiplier left) = 0
@@ -104,7 +103,7 @@ ruled f true s k = k refl
 ruled f false s k = tt
 
 after-ceiling : (c : Cells) (lo hi : ℕ) → Kept (Ceiling c lo) (afterCeiling c lo hi)
-after-ceiling c lo hi = go (ltb hi lo) (ltb (c .cell + 1) (c .n)) refl (ltb 0 (c .want))
+after-ceiling c lo hi = go (ltb hi lo) (ltb (c .cell + 1) (c .n)) refl (ltb 0 (c .want / 8))
   where
     go : (a b : Bool) → ltb (c .cell + 1) (c .n) ≡ b → (w : Bool)
         → Kept (Ceiling c lo) (if a then Refused 3 (c .cell) else if b then Next (Crude (nextCell c)) else if w then Refused 4 0 else Next (LinkCount (c .n)))
@@ -120,15 +119,15 @@ links-from f n links j h k = go (ltb j links) refl
     go true e = let l = ltb-true j links e in record { less = omega arith; slower = omega arith }
     go false e = record { less = omega arith; slower = omega arith }
 
-after-coefficient : (l : Links) (rises : Bool) (x : ℕ) → Kept (Coefficient l rises) (afterCoefficient l rises x)
-after-coefficient l rises x = go (eqb x 0) rises (ltb 1 (l .terms)) refl
+after-coefficient : (l : Links) (x : ℕ) → Kept (Coefficient l) (afterCoefficient l x)
+after-coefficient l x = go (eqb x 0) (eqb (l .least) 0) (ltb 1 (l .terms)) refl
   where
     go : (a r b : Bool) → ltb 1 (l .terms) ≡ b
-        → Kept (Coefficient l rises) (if a then Refused 5 (l .link) else if r then (if b then Next (Cell (record { n = l .n; links = l .links; link = l .link; terms = l .terms - 1; least = l .least })) else Next (Bound l)) else Refused 5 (l .link))
+        → Kept (Coefficient l) (if a then Refused 5 (l .link) else if r then Refused 5 (l .link) else if b then Next (Cell (record { n = l .n; links = l .links; link = l .link; terms = l .terms - 1; least = l .least })) else Next (Bound l))
     go true r b e = record { some = omega arith; few = omega arith; near = omega arith }
-    go false true true e = let h = ltb-true 1 (l .terms) e in record { less = omega arith; slower = omega arith }
-    go false true false e = record { less = omega arith; slower = omega arith }
-    go false false b e = record { some = omega arith; few = omega arith; near = omega arith }
+    go false true b e = record { some = omega arith; few = omega arith; near = omega arith }
+    go false false true e = let h = ltb-true 1 (l .terms) e in record { less = omega arith; slower = omega arith }
+    go false false false e = record { less = omega arith; slower = omega arith }
 
 pub budget-multipliers : (left : ℕ) → (budget (multipliersFrom left) ≤ left) × (standing (multipliersFrom left) ≡ 0)
 budget-multipliers left = go (eqb left 0) refl
@@ -154,16 +153,16 @@ after-order : (n x : ℕ) → Kept (Order n) (afterOrder n x)
 after-order n x = go (eqb x 5)
   where
     line : Field
-    line = Constant (lineOf n (orderUsed x)) 0
+    line = Constant (shaped n 1 (orderUsed x) 1) 0
 
-    go : (t : Bool) → Kept (Order n) (if t then Next (Rows n) else rule (ltb (orderUsed x) n) (Next line))
+    go : (t : Bool) → Kept (Order n) (if t then Next (Rows n) else rule (isOrder n (orderUsed x)) (Next line))
     go true = falls (omega arith) refl
-    go false = ruled (Order n) (ltb (orderUsed x) n) (Next line) (λ e. falls (omega arith) refl)
+    go false = ruled (Order n) (isOrder n (orderUsed x)) (Next line) (λ e. falls (omega arith) refl)
 
 after-weight : (c : Cells) (x : ℕ) → Onward (Weight c) (Floor (weighed c x))
-after-weight c x = go (ltb (c .column + 1) (c .columns))
+after-weight c x = go (ltb (c .column + 1) (c .row / 8))
   where
-    go : (t : Bool) → Onward (Weight c) (Floor (if t then inRow c (lacking (c .lack) x) else nextRow c (lacking (c .lack) x)))
+    go : (t : Bool) → Onward (Weight c) (Floor (if t then inRow c (lacking (c .want) x) else nextRow c (lacking (c .want) x)))
     go true = falls (omega arith) refl
     go false = falls (omega arith) refl
 
@@ -172,14 +171,16 @@ unfolding stepOf
 step-kept Society x = ruled Society (within 0 7 x) (Next Job) (λ e. falls (omega arith) refl)
 step-kept Job x = ruled Job (within 0 4294967295 x) (Next Count) (λ e. falls (omega arith) refl)
 step-kept Count x = ruled Count (within 2 120 x) (Next (Order x)) (λ e. falls (omega (arith, within-both 2 120 x e)) refl)
-step-kept (Order n) x = ruled (Order n) (within 0 5 x) (afterOrder n x) (λ e. after-order n x)
-step-kept (Rows n) x = ruled (Rows n) (isLength x) (Next (Columns n x)) (λ e. falls (omega arith) refl)
-step-kept (Columns n rows) x = ruled (Columns n rows) (areColumns n rows x) (Next (OrderDown (gridOf n rows x))) (λ e. falls (omega arith) refl)
-step-kept (OrderDown s) x = ruled (OrderDown s) (isOrder (s .rows) x) (Next (OrderAcross (withDown s x))) (λ e. falls (omega arith) refl)
-step-kept (OrderAcross s) x = ruled (OrderAcross s) (isOrder (s .columns) x) (Next (SecondConstant (withAcross s x))) (λ e. falls (omega arith) refl)
-step-kept (SecondConstant s) x = ruled (SecondConstant s) (within 1 999 x) (Next (Constant s x)) (λ e. falls (omega arith) refl)
-step-kept (Constant s second) x = ruled (Constant s second) (within 1 (1000 - second) x) (Next (Tolerance s)) (λ e. falls (omega arith) refl)
-step-kept (Tolerance s) x = ruled (Tolerance s) (within 0 1000000000000000 x) (Next (cellsFrom s)) (λ e. falls (omega arith) refl)
+step-kept (Order n) x = after-order n x
+step-kept (Rows n) x = ruled (Rows n) (leb 2 x) (Next (Columns n x)) (λ e. falls (omega arith) refl)
+step-kept (Columns n rows) x = ruled (Columns n rows) (areColumns n rows x) (Next (OrderDown (shaped n x 0 0) rows)) (λ e. falls (omega arith) refl)
+step-kept (OrderDown c rows) x =
+    ruled (OrderDown c rows) (isOrder rows x) (Next (OrderAcross (shaped (c .n) (c .row / 8) x 0))) (λ e. falls (omega arith) refl)
+step-kept (OrderAcross c) x =
+    ruled (OrderAcross c) (isOrder (c .row / 8) x) (Next (SecondConstant (shaped (c .n) (c .row / 8) (c .want / 8) x))) (λ e. falls (omega arith) refl)
+step-kept (SecondConstant c) x = ruled (SecondConstant c) (within 1 999 x) (Next (Constant c x)) (λ e. falls (omega arith) refl)
+step-kept (Constant c second) x = ruled (Constant c second) (within 1 (1000 - second) x) (Next (Tolerance c)) (λ e. falls (omega arith) refl)
+step-kept (Tolerance c) x = ruled (Tolerance c) (within 0 1000000000000000 x) (Next (Crude c)) (λ e. falls (omega arith) refl)
 step-kept (Crude c) x = ruled (Crude c) (within 0 1000000 x) (Next (Weight c)) (λ e. falls (omega arith) refl)
 step-kept (Weight c) x = ruled (Weight c) (within 0 1000 x) (Next (Floor (weighed c x))) (λ e. after-weight c x)
 step-kept (Floor c) x = ruled (Floor c) (within 0 1000000 x) (Next (Ceiling c x)) (λ e. falls (omega arith) refl)
@@ -190,11 +191,8 @@ step-kept (LinkCount n) x =
 step-kept (TermCount l) x =
     ruled (TermCount l) (within 1 4 x) (Next (Cell (withTerms l x))) (λ e. falls (omega (arith, within-both 1 4 x e)) refl)
 step-kept (Cell l) x =
-    ruled (Cell l) (ltb x (l .n))
-    (Next (Coefficient (record { n = l .n; links = l .links; link = l .link; terms = l .terms; least = x + 1 }) (leb (l .least) x)))
-    (λ e. falls (omega arith) refl)
-step-kept (Coefficient l rises) x =
-    ruled (Coefficient l rises) (withinSigned 10 x) (afterCoefficient l rises x) (λ e. after-coefficient l rises x)
+    ruled (Cell l) (ltb x (l .n)) (Next (Coefficient (withLeast l (if leb (l .least) x then x + 1 else 0)))) (λ e. falls (omega arith) refl)
+step-kept (Coefficient l) x = ruled (Coefficient l) (withinSigned 10 x) (afterCoefficient l x) (λ e. after-coefficient l x)
 step-kept (Bound l) x =
     ruled (Bound l) (withinSigned 1000000000 x) (Next (linksFrom (l .n) (l .links) (l .link + 1)))
     (λ e. links-from (Bound l) (l .n) (l .links) (l .link + 1) (omega arith) (omega arith))

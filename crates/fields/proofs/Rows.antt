@@ -1,16 +1,16 @@
 -- Reading a row of the table backwards: what is known of a number that lets the walk go on, and of a field that is the end.
-use Prim.Native.Nat.{ℕ, _^_, _≤_, _<_}
+use Prim.Native.Nat.{ℕ, _*_, _^_, _≤_, _<_}
 use mathlib.Core.Path.{_≡_, refl}
 use mathlib.Core.Bool.{Bool, true, false, _&&_}
 use native.Mathlib.Omega.{arith}
-use borrow.Author.Tests.{leb-true, ltb-true, ltb-false}
-use lib.Dec.{leb, ltb}
+use borrow.Author.Tests.{leb-true, ltb-true, ltb-false, eqb-true}
+use lib.Dec.{leb, ltb, eqb}
 use Rattle.numbers.proofs.Clash.{clash}
 use Rattle.fields.specs.declared.Field.{Field}
 use Rattle.fields.specs.declared.Field.the-variants.{Society, Job, Count, Order, Rows, Columns, OrderDown, OrderAcross, SecondConstant, Constant, Tolerance, Crude, Weight, Floor, Ceiling, LinkCount, TermCount, Cell, Coefficient, Bound, Value, Multiplier, End}
 use Rattle.fields.specs.declared.Step.{Step}
 use Rattle.fields.specs.declared.Step.the-variants.{Next, NotAllowed}
-use Rattle.fields.specs.Table.{within, rule, signedAt, endAt, stepOf}
+use Rattle.fields.specs.Table.{within, rule, areColumns, isOrder, signedAt, endAt, stepOf}
 
 -- a rule that lets the walk go on was kept
 pub record Kept (allowed : Bool) (s : Step) (g : Field) : Type 0 where
@@ -31,6 +31,33 @@ within-both least most x e = go (leb least x) refl e
     go true q e = (leb-true least x q, leb-true x most e)
     go false q e = clash (cc)
 
+-- a test of two parts that was passed
+both : (a b : Bool) → (a && b) ≡ true → (a ≡ true) × (b ≡ true)
+both true b e = (refl, e)
+both false b e = clash (cc)
+
+pub record OrderTold (length x : ℕ) : Type 0 where
+  pub some : 1 ≤ x
+  pub few : x ≤ 4
+  pub less : x < length
+
+pub order-told : (length x : ℕ) → isOrder length x ≡ true → OrderTold length x
+order-told length x e =
+    let t = both (within 1 4 x) (ltb x length) e in
+    let w = within-both 1 4 x (t .0) in
+    record { some = w .0; few = w .1; less = ltb-true x length (t .1) }
+
+pub record ColumnsTold (n rows x : ℕ) : Type 0 where
+  pub some : 2 ≤ x
+  pub few : x ≤ 120
+  pub product : rows * x ≡ n
+
+pub columns-told : (n rows x : ℕ) → areColumns n rows x ≡ true → ColumnsTold n rows x
+columns-told n rows x e =
+    let t = both (within 2 120 x) (eqb (rows * x) n) e in
+    let w = within-both 2 120 x (t .0) in
+    record { some = w .0; few = w .1; product = eqb-true (rows * x) n (t .1) }
+
 -- a number beyond what is allowed
 within-out : (most x : ℕ) → most < x → within 0 most x ≡ false
 within-out most x h = go (within 0 most x) refl
@@ -48,7 +75,7 @@ signed-large Count x t h = clash (cc)
 signed-large (Order a) x t h = clash (cc)
 signed-large (Rows a) x t h = clash (cc)
 signed-large (Columns a b) x t h = clash (cc)
-signed-large (OrderDown a) x t h = clash (cc)
+signed-large (OrderDown a b) x t h = clash (cc)
 signed-large (OrderAcross a) x t h = clash (cc)
 signed-large (SecondConstant a) x t h = clash (cc)
 signed-large (Constant a b) x t h = clash (cc)
@@ -60,7 +87,7 @@ signed-large (Ceiling a b) x t h = clash (cc)
 signed-large (LinkCount a) x t h = clash (cc)
 signed-large (TermCount a) x t h = clash (cc)
 signed-large (Cell a) x t h = clash (cc)
-signed-large (Coefficient a b) x t h = rw (within-out 20 x (omega arith))
+signed-large (Coefficient a) x t h = rw (within-out 20 x (omega arith))
 signed-large (Bound a) x t h = rw (within-out 2000000000 x (omega arith))
 signed-large (Value a b) x t h = clash (cc)
 signed-large (Multiplier a) x t h = clash (cc)
@@ -82,7 +109,7 @@ end-only Count e = clash (cc)
 end-only (Order a) e = clash (cc)
 end-only (Rows a) e = clash (cc)
 end-only (Columns a b) e = clash (cc)
-end-only (OrderDown a) e = clash (cc)
+end-only (OrderDown a b) e = clash (cc)
 end-only (OrderAcross a) e = clash (cc)
 end-only (SecondConstant a) e = clash (cc)
 end-only (Constant a b) e = clash (cc)
@@ -94,7 +121,7 @@ end-only (Ceiling a b) e = clash (cc)
 end-only (LinkCount a) e = clash (cc)
 end-only (TermCount a) e = clash (cc)
 end-only (Cell a) e = clash (cc)
-end-only (Coefficient a b) e = clash (cc)
+end-only (Coefficient a) e = clash (cc)
 end-only (Bound a) e = clash (cc)
 end-only (Value a b) e = clash (cc)
 end-only (Multiplier a) e = clash (cc)

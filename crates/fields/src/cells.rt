@@ -3,75 +3,53 @@ use crate::Field;
 use crate::Step;
 use crate::limits::fewer;
 use crate::limits::has_more;
-use crate::shape::Shape;
 ghost use mathlib.Core.Path.{_≡_};
-ghost use Rattle.fields.specs.Table.{cellsFrom, lacking, wanted, nextRow, weighed, afterCeiling};
+ghost use Rattle.fields.specs.Table.{lacking, rowsWanted, nextRow, weighed, afterCeiling};
 
-// The cell that a walk stands in: of how many, in rows of how many; how many rows with enough positive weights are still wanted, how many weights the
-// cell's own row lacks, and its column.
+// The cell that a walk stands in: of how many; what a row is, 8 times its columns and its order across; what is wanted, 8 times the rows with enough
+// positive weights and the weights that the cell's own row lacks; and its column.
 pub struct Cells {
     pub n: u64,
-    pub columns: u64,
-    pub across: u64,
+    pub row: u64,
     pub want: u64,
-    pub lack: u64,
     pub column: u64,
     pub cell: u64,
 }
 
-// Where the cells begin.
-pub fn first_cell(s: Shape) -> Field
-    ensures { λ r. ⌜ r ≡ cellsFrom s ⌝ }
-{
-    let n = s.n;
-    let columns = s.columns;
-    let across = s.across;
-    let want = s.down;
-    Field::Crude(Cells {
-        n,
-        columns,
-        across,
-        want,
-        lack: across,
-        column: 0,
-        cell: 0,
-    })
-}
-
-// What a row lacks after a weight.
-fn lacks(lack: u64, x: u64) -> u64
-    ensures { λ r. ⌜ r ≡ lacking lack x ⌝ }
+// What is wanted after a weight.
+fn lacks(want: u64, x: u64) -> u64
+    ensures { λ r. ⌜ r ≡ lacking want x ⌝ }
 {
     if 0 < x {
-        return fewer(lack);
-    }
-    lack
-}
-
-// The rows wanted after a row that lacks so many.
-fn wants(want: u64, lack: u64) -> u64
-    ensures { λ r. ⌜ r ≡ wanted want lack ⌝ }
-{
-    if lack == 0 {
-        return fewer(want);
+        if 0 < want % 8 {
+            return want - 1;
+        }
     }
     want
 }
 
-fn next_row(c: Cells, lack: u64) -> Cells
-    ensures { λ r. ⌜ r ≡ nextRow c lack ⌝ }
+// The rows wanted after a row's end.
+fn rows_wanted(want: u64) -> u64
+    ensures { λ r. ⌜ r ≡ rowsWanted want ⌝ }
+{
+    if want % 8 == 0 {
+        return fewer(want / 8);
+    }
+    want / 8
+}
+
+fn next_row(c: Cells, want: u64) -> Cells
+    ensures { λ r. ⌜ r ≡ nextRow c want ⌝ }
 {
     let n = c.n;
-    let columns = c.columns;
-    let across = c.across;
+    let row = c.row;
     let cell = c.cell;
-    let want = wants(c.want, lack);
+    let rows = rows_wanted(want);
+    let anew = 8 * rows + row % 8;
     Cells {
         n,
-        columns,
-        across,
-        want,
-        lack: across,
+        row,
+        want: anew,
         column: 0,
         cell,
     }
@@ -82,24 +60,21 @@ pub fn with_weight(c: Cells, x: u64) -> Cells
     ensures { λ r. ⌜ r ≡ weighed c x ⌝ }
 {
     let n = c.n;
-    let columns = c.columns;
-    let across = c.across;
-    let want = c.want;
+    let row = c.row;
     let column = c.column;
     let cell = c.cell;
-    let lack = lacks(c.lack, x);
-    if has_more(column, columns) {
+    let want = lacks(c.want, x);
+    if has_more(column, row / 8) {
+        let next = column + 1;
         return Cells {
             n,
-            columns,
-            across,
+            row,
             want,
-            lack,
-            column: column + 1,
+            column: next,
             cell,
         };
     }
-    next_row(c, lack)
+    next_row(c, want)
 }
 
 // A floor above its ceiling is 3; after the last cell, too few rows with enough positive weights are 4.
@@ -108,26 +83,23 @@ pub fn after_ceiling(c: Cells, lo: u64, x: u64) -> Step
 {
     let cell = c.cell;
     let n = c.n;
-    let columns = c.columns;
-    let across = c.across;
+    let row = c.row;
     let want = c.want;
-    let lack = c.lack;
     let column = c.column;
     if x < lo {
         return Step::Refused(3, cell);
     }
     if has_more(cell, n) {
+        let next = cell + 1;
         return Step::Next(Field::Crude(Cells {
             n,
-            columns,
-            across,
+            row,
             want,
-            lack,
             column,
-            cell: cell + 1,
+            cell: next,
         }));
     }
-    if 0 < want {
+    if 0 < want / 8 {
         return Step::Refused(4, 0);
     }
     Step::Next(Field::LinkCount(n))

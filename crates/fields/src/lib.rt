@@ -8,11 +8,9 @@ pub mod shape;
 
 use crate::cells::Cells;
 use crate::cells::after_ceiling;
-use crate::cells::first_cell;
 use crate::cells::with_weight;
 use crate::limits::is_within;
 use crate::limits::less;
-use crate::limits::order_used;
 use crate::links::Links;
 use crate::links::after_bound;
 use crate::links::after_cell;
@@ -21,18 +19,15 @@ use crate::links::first_link;
 use crate::links::with_terms;
 use crate::proposal::after_multiplier;
 use crate::proposal::after_value;
-use crate::shape::Shape;
-use crate::shape::are_columns;
-use crate::shape::grid_of;
-use crate::shape::is_order;
-use crate::shape::line_of;
-use crate::shape::with_across;
-use crate::shape::with_down;
+use crate::shape::after_across;
+use crate::shape::after_columns;
+use crate::shape::after_down;
+use crate::shape::after_order;
 ghost use mathlib.Core.Path.{_≡_};
 ghost use Rattle.fields.specs.declared.Field.the-variants.{Tolerance};
 ghost use Prim.Native.Nat.{_-_};
 ghost use Rattle.fields.specs.declared.Step.the-variants.{Next};
-ghost use Rattle.fields.specs.Table.{within, withinSigned, rule, afterOrder, afterCoefficient, stepOf, signedAt, endAt};
+ghost use Rattle.fields.specs.Table.{within, withinSigned, rule, afterCoefficient, stepOf, signedAt, endAt};
 
 // The field whose number comes next, with what the numbers before it fix.
 pub enum Field {
@@ -42,11 +37,11 @@ pub enum Field {
     Order(u64),
     Rows(u64),
     Columns(u64, u64),
-    OrderDown(Shape),
-    OrderAcross(Shape),
-    SecondConstant(Shape),
-    Constant(Shape, u64),
-    Tolerance(Shape),
+    OrderDown(Cells, u64),
+    OrderAcross(Cells),
+    SecondConstant(Cells),
+    Constant(Cells, u64),
+    Tolerance(Cells),
     Crude(Cells),
     Weight(Cells),
     Floor(Cells),
@@ -54,7 +49,7 @@ pub enum Field {
     LinkCount(u64),
     TermCount(Links),
     Cell(Links),
-    Coefficient(Links, bool),
+    Coefficient(Links),
     Bound(Links),
     Value(u64, u64),
     Multiplier(u64),
@@ -83,34 +78,23 @@ fn next_if(allowed: bool, f: Field) -> Step
     ruled(allowed, Step::Next(f))
 }
 
-// Order field 5 announces a grid; any other order used has to be less than the count of cells.
-fn after_order(n: u64, x: u64) -> Step
-    ensures { λ r. ⌜ r ≡ afterOrder n x ⌝ }
-{
-    if x == limits::GRID {
-        return Step::Next(Field::Rows(n));
-    }
-    let z = order_used(x);
-    next_if(z < n, Field::Constant(line_of(n, z), 0))
-}
-
 // k, after a second constant.
-fn after_constant(s: Shape, second: u64, x: u64) -> Step
-    ensures { λ r. ⌜ r ≡ rule (within 1 (1000 - second) x) (Next (Tolerance s)) ⌝ }
+fn after_constant(c: Cells, second: u64, x: u64) -> Step
+    ensures { λ r. ⌜ r ≡ rule (within 1 (1000 - second) x) (Next (Tolerance c)) ⌝ }
 {
     next_if(
         is_within(1, less(limits::CONSTANT, second), x),
-        Field::Tolerance(s),
+        Field::Tolerance(c),
     )
 }
 
 // A coefficient in its stored form.
-fn after_stored(l: Links, rises: bool, x: u64) -> Step
-    ensures { λ r. ⌜ r ≡ rule (withinSigned 10 x) (afterCoefficient l rises x) ⌝ }
+fn after_stored(l: Links, x: u64) -> Step
+    ensures { λ r. ⌜ r ≡ rule (withinSigned 10 x) (afterCoefficient l x) ⌝ }
 {
     ruled(
         is_within(0, 2 * limits::COEFFICIENT, x),
-        after_coefficient(l, rises, x),
+        after_coefficient(l, x),
     )
 }
 
@@ -119,7 +103,7 @@ pub fn is_signed(f: Field) -> bool
     ensures { λ r. ⌜ r ≡ signedAt f ⌝ }
 {
     match f {
-        Field::Coefficient(_, _) => true,
+        Field::Coefficient(_) => true,
         Field::Bound(_) => true,
         _ => false,
     }
@@ -143,23 +127,17 @@ pub fn after(f: Field, x: u64) -> Step
         Field::Society => next_if(is_within(0, limits::SOCIETY, x), Field::Job),
         Field::Job => next_if(is_within(0, limits::JOB, x), Field::Count),
         Field::Count => next_if(is_within(2, limits::CELLS, x), Field::Order(x)),
-        Field::Order(n) => ruled(is_within(0, limits::GRID, x), after_order(n, x)),
+        Field::Order(n) => after_order(n, x),
         Field::Rows(n) => next_if(2 <= x, Field::Columns(n, x)),
-        Field::Columns(n, rows) => next_if(
-            are_columns(n, rows, x),
-            Field::OrderDown(grid_of(n, rows, x)),
-        ),
-        Field::OrderDown(s) => next_if(is_order(s.rows, x), Field::OrderAcross(with_down(s, x))),
-        Field::OrderAcross(s) => next_if(
-            is_order(s.columns, x),
-            Field::SecondConstant(with_across(s, x)),
-        ),
-        Field::SecondConstant(s) => next_if(
+        Field::Columns(n, rows) => after_columns(n, rows, x),
+        Field::OrderDown(c, rows) => after_down(c, rows, x),
+        Field::OrderAcross(c) => after_across(c, x),
+        Field::SecondConstant(c) => next_if(
             is_within(1, limits::SECOND_CONSTANT, x),
-            Field::Constant(s, x),
+            Field::Constant(c, x),
         ),
-        Field::Constant(s, second) => after_constant(s, second, x),
-        Field::Tolerance(s) => next_if(is_within(0, limits::TOLERANCE, x), first_cell(s)),
+        Field::Constant(c, second) => after_constant(c, second, x),
+        Field::Tolerance(c) => next_if(is_within(0, limits::TOLERANCE, x), Field::Crude(c)),
         Field::Crude(c) => next_if(is_within(0, limits::RATE, x), Field::Weight(c)),
         Field::Weight(c) => next_if(
             is_within(0, limits::WEIGHT, x),
@@ -173,7 +151,7 @@ pub fn after(f: Field, x: u64) -> Step
             Field::Cell(with_terms(l, x)),
         ),
         Field::Cell(l) => after_cell(l, x),
-        Field::Coefficient(l, rises) => after_stored(l, rises, x),
+        Field::Coefficient(l) => after_stored(l, x),
         Field::Bound(l) => next_if(is_within(0, 2 * limits::BOUND, x), after_bound(l)),
         Field::Value(n, links) => next_if(is_within(0, limits::RATE, x), after_value(n, links)),
         Field::Multiplier(n) => next_if(is_within(0, limits::MULTIPLIER, x), after_multiplier(n)),

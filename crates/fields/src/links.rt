@@ -4,9 +4,10 @@ use crate::Step;
 use crate::limits::has_more;
 ghost use mathlib.Core.Path.{_≡_};
 ghost use Prim.Native.Nat.{_+_};
-ghost use Rattle.fields.specs.Table.{afterCell, afterCoefficient, linksFrom, withTerms};
+ghost use Rattle.fields.specs.Table.{afterCell, afterCoefficient, linksFrom, withLeast, withTerms};
 
-// The link that a walk stands in: of how many, over how many cells; the terms that are left of it, and the least cell that the next may name.
+// The link that a walk stands in: of how many, over how many cells; the terms that are left of it, and the least cell that the next may name (0 after one that does
+// not rise).
 pub struct Links {
     pub n: u64,
     pub links: u64,
@@ -46,33 +47,41 @@ pub fn with_terms(l: Links, x: u64) -> Links
     }
 }
 
+fn with_least(l: Links, least: u64) -> Links
+    ensures { λ r. ⌜ r ≡ withLeast l least ⌝ }
+{
+    let n = l.n;
+    let links = l.links;
+    let link = l.link;
+    let terms = l.terms;
+    Links {
+        n,
+        links,
+        link,
+        terms,
+        least,
+    }
+}
+
 // Whether the cell rises is only settled once the coefficient was read and tested too.
 pub fn after_cell(l: Links, x: u64) -> Step
     ensures { λ r. ⌜ r ≡ afterCell l x ⌝ }
 {
     let n = l.n;
     let least = l.least;
-    let links = l.links;
-    let link = l.link;
-    let terms = l.terms;
     if x < n {
-        return Step::Next(Field::Coefficient(
-            Links {
-                n,
-                links,
-                link,
-                terms,
-                least: x + 1,
-            },
-            least <= x,
-        ));
+        if least <= x {
+            let next = x + 1;
+            return Step::Next(Field::Coefficient(with_least(l, next)));
+        }
+        return Step::Next(Field::Coefficient(with_least(l, 0)));
     }
     Step::NotAllowed
 }
 
 // A coefficient 0, or a cell that does not rise, is 5.
-pub fn after_coefficient(l: Links, rises: bool, x: u64) -> Step
-    ensures { λ r. ⌜ r ≡ afterCoefficient l rises x ⌝ }
+pub fn after_coefficient(l: Links, x: u64) -> Step
+    ensures { λ r. ⌜ r ≡ afterCoefficient l x ⌝ }
 {
     let link = l.link;
     let terms = l.terms;
@@ -82,7 +91,7 @@ pub fn after_coefficient(l: Links, rises: bool, x: u64) -> Step
     if x == 0 {
         return Step::Refused(5, link);
     }
-    if rises {
+    if 0 < least {
         if 1 < terms {
             return Step::Next(Field::Cell(Links {
                 n,

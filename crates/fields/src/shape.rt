@@ -1,77 +1,58 @@
-// The shape of a job: its cells in rows and columns, with an order down and an order across. A one-dimensional job has one column.
+// The shape of a job: its cells in rows and columns, with an order down and an order across. A one-dimensional job has one column. Small numbers are
+// paired (8 times the one and the other) where their tests have just passed.
+use crate::Field;
+use crate::Step;
+use crate::cells::Cells;
 use crate::limits::is_within;
+use crate::limits::order_used;
 ghost use mathlib.Core.Path.{_≡_};
-ghost use Rattle.fields.specs.Table.{lineOf, areColumns, isOrder, gridOf, withDown, withAcross};
+ghost use Prim.Native.Nat.{_/_};
+ghost use Rattle.fields.specs.declared.Field.the-variants.{OrderDown, OrderAcross, SecondConstant};
+ghost use Rattle.fields.specs.declared.Step.the-variants.{Next};
+ghost use Rattle.fields.specs.Table.{rule, shaped, areColumns, isOrder, afterOrder};
 
-// What the numbers before k fix; an order that is not read yet is 0.
-pub struct Shape {
-    pub n: u64,
-    pub rows: u64,
-    pub columns: u64,
-    pub down: u64,
-    pub across: u64,
+// Whether x is an order for differences along so many cells.
+fn is_order(length: u64, x: u64) -> bool
+    ensures { λ r. ⌜ r ≡ isOrder length x ⌝ }
+{
+    if is_within(1, crate::limits::ORDER, x) {
+        return x < length;
+    }
+    false
 }
 
-pub fn line_of(n: u64, z: u64) -> Shape
-    ensures { λ r. ⌜ r ≡ lineOf n z ⌝ }
+// Order field 5 announces a grid; any other order used has to be less than the count of cells.
+pub fn after_order(n: u64, x: u64) -> Step
+    ensures { λ r. ⌜ r ≡ afterOrder n x ⌝ }
 {
-    Shape {
-        n,
-        rows: n,
-        columns: 1,
-        down: z,
-        across: 1,
+    if x == crate::limits::GRID {
+        return Step::Next(Field::Rows(n));
     }
-}
-
-pub fn grid_of(n: u64, rows: u64, columns: u64) -> Shape
-    ensures { λ r. ⌜ r ≡ gridOf n rows columns ⌝ }
-{
-    Shape {
-        n,
-        rows,
-        columns,
-        down: 0,
-        across: 0,
+    let z = order_used(x);
+    if is_order(n, z) {
+        let want = 8 * z + 1;
+        return Step::Next(Field::Constant(
+            Cells {
+                n,
+                row: 9,
+                want,
+                column: 0,
+                cell: 0,
+            },
+            0,
+        ));
     }
-}
-
-pub fn with_down(s: Shape, x: u64) -> Shape
-    ensures { λ r. ⌜ r ≡ withDown s x ⌝ }
-{
-    let n = s.n;
-    let rows = s.rows;
-    let columns = s.columns;
-    Shape {
-        n,
-        rows,
-        columns,
-        down: x,
-        across: 0,
-    }
-}
-
-pub fn with_across(s: Shape, x: u64) -> Shape
-    ensures { λ r. ⌜ r ≡ withAcross s x ⌝ }
-{
-    let n = s.n;
-    let rows = s.rows;
-    let columns = s.columns;
-    let down = s.down;
-    Shape {
-        n,
-        rows,
-        columns,
-        down,
-        across: x,
-    }
+    Step::NotAllowed
 }
 
 // Whether so many rows of x cells are n cells; the product is made only where it cannot pass n.
-pub fn are_columns(n: u64, rows: u64, x: u64) -> bool
+fn are_columns(n: u64, rows: u64, x: u64) -> bool
     ensures { λ r. ⌜ r ≡ areColumns n rows x ⌝ }
 {
     if x < 2 {
+        return false;
+    }
+    if crate::limits::CELLS < x {
         return false;
     }
     if n / x < rows {
@@ -80,12 +61,60 @@ pub fn are_columns(n: u64, rows: u64, x: u64) -> bool
     rows * x == n
 }
 
-// Whether x is an order for differences along so many cells.
-pub fn is_order(length: u64, x: u64) -> bool
-    ensures { λ r. ⌜ r ≡ isOrder length x ⌝ }
+pub fn after_columns(n: u64, rows: u64, x: u64) -> Step
+    ensures { λ r. ⌜ r ≡ rule (areColumns n rows x) (Next (OrderDown (shaped n x 0 0) rows)) ⌝ }
 {
-    if is_within(1, crate::limits::ORDER, x) {
-        return x < length;
+    if are_columns(n, rows, x) {
+        let row = 8 * x;
+        return Step::Next(Field::OrderDown(
+            Cells {
+                n,
+                row,
+                want: 0,
+                column: 0,
+                cell: 0,
+            },
+            rows,
+        ));
     }
-    false
+    Step::NotAllowed
+}
+
+pub fn after_down(c: Cells, rows: u64, x: u64) -> Step
+    ensures { λ r. ⌜ r ≡ rule (isOrder rows x) (Next (OrderAcross (shaped (c .n) (c .row / 8) x 0))) ⌝ }
+{
+    let n = c.n;
+    let columns = c.row / 8;
+    if is_order(rows, x) {
+        let row = 8 * columns;
+        let want = 8 * x;
+        return Step::Next(Field::OrderAcross(Cells {
+            n,
+            row,
+            want,
+            column: 0,
+            cell: 0,
+        }));
+    }
+    Step::NotAllowed
+}
+
+pub fn after_across(c: Cells, x: u64) -> Step
+    ensures { λ r. ⌜ r ≡ rule (isOrder (c .row / 8) x) (Next (SecondConstant (shaped (c .n) (c .row / 8) (c .want / 8) x))) ⌝ }
+{
+    let n = c.n;
+    let columns = c.row / 8;
+    let down = c.want / 8;
+    if is_order(columns, x) {
+        let row = 8 * columns + x;
+        let want = 8 * down + x;
+        return Step::Next(Field::SecondConstant(Cells {
+            n,
+            row,
+            want,
+            column: 0,
+            cell: 0,
+        }));
+    }
+    Step::NotAllowed
 }

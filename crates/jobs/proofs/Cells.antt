@@ -1,12 +1,12 @@
 -- The cells of a job that was read, one after another: each is allowed, and as many rows with enough positive weights follow as are still wanted.
-use Prim.Native.Nat.{ℕ, zero, suc, _+_, _-_, _*_, _≤_, _<_}
-use mathlib.Core.Path.{_≡_, refl, sym, ap, _∙_}
+use Prim.Native.Nat.{ℕ, zero, suc, _+_, _*_, _/_, _≤_, _<_}
+use mathlib.Core.Path.{_≡_, refl, ap}
 use mathlib.Core.Bool.{Bool, true, false}
 use mathlib.Core.List.{List}
 use native.Mathlib.Nat as N
 use native.Mathlib.Numerals.{add-one}
 use native.Mathlib.Omega.{arith}
-use borrow.Author.Tests.{ltb-true, ltb-false, lt-ltb, le-ltb}
+use borrow.Author.Tests.{ltb-true, ltb-false}
 use lib.Dec.{ltb}
 use lib.IntN.{ℤ, pos}
 use lib.Signed.{_≤ℤ_}
@@ -16,13 +16,14 @@ use Rattle.whole.proofs.Order.{pos-mono}
 use Rattle.fields.specs.declared.cells.Cells.{Cells}
 use Rattle.fields.specs.declared.Field.the-variants.{Crude, Weight, Floor, Ceiling, LinkCount}
 use Rattle.fields.specs.declared.Step.the-variants.{Next, Refused}
-use Rattle.fields.specs.Table.{within, lacking, wanted, weighed, afterCeiling, stepOf}
+use Rattle.fields.specs.Table.{within, paired, weighed, afterCeiling, stepOf}
 use Rattle.fields.proofs.Rows.{within-both}
 use Rattle.jobs.specs.Job.{Job}
 use Rattle.jobs.specs.Words.{countAt, cellsOf, headWords, columnsOf, acrossOf, jobOf}
 use Rattle.jobs.specs.Allowed.{CellAllowed, positives, rowsHeld}
 use Rattle.jobs.proofs.Taken.{At, at-place, at-field, Row, row, next-is, plain, here-on}
-use Rattle.jobs.proofs.Weights.{full, lacks-less, row-held}
+use Rattle.jobs.proofs.Weights as W
+use Rattle.jobs.proofs.Weights.{lackAfter, wantAfter, no-more, weighed-inside, weighed-end, full, lacks-less, row-held}
 
 box-of : {a b : ℤ} {x y : ℕ} → a ≡ pos x → b ≡ pos y → x ≤ y → a ≤ℤ b
 box-of e q h = rw (e, q) (pos-mono h)
@@ -38,8 +39,7 @@ module _ (ws : List ℤ) where
   J = jobOf ws
 
   abbrev cellAt : (want lack column cell : ℕ) → Cells
-  cellAt want lack column cell =
-      record { n = n; columns = columnsOf ws; across = acrossOf ws; want = want; lack = lack; column = column; cell = cell }
+  cellAt want lack column cell = W.cellAt n (columnsOf ws) (acrossOf ws) want lack column cell
 
   -- after a ceiling: the next cell, or the links, where no more rows are wanted
   data After (want lack column cell p : ℕ) : Type 0 where
@@ -53,12 +53,12 @@ module _ (ws : List ℤ) where
 
   high : {p : ℕ} {test : ℕ → Bool} (want lack column cell lo : ℕ) → Row ws p test (afterCeiling (cellAt want lack column cell) lo)
       → High want lack column cell lo p
-  high {p} want lack column cell lo r = go (ltb hi lo) (ltb (cell + 1) n) (ltb 0 want) refl refl refl (r .next)
+  high {p} want lack column cell lo r = go (ltb hi lo) (ltb (cell + 1) n) (ltb 0 (paired want lack / 8)) refl refl refl (r .next)
     where
       hi : ℕ
       hi = countAt ws p
 
-      go : (a b d : Bool) → ltb hi lo ≡ a → ltb (cell + 1) n ≡ b → ltb 0 want ≡ d
+      go : (a b d : Bool) → ltb hi lo ≡ a → ltb (cell + 1) n ≡ b → ltb 0 (paired want lack / 8) ≡ d
           → (if a then Refused 3 cell else if b then Next (Crude (cellAt want lack column (cell + 1))) else if d then Refused 4 0 else Next (LinkCount n))
           ≡ Next (r .g) → High want lack column cell lo p
       go true b d l m w e = clash (cc)
@@ -66,7 +66,7 @@ module _ (ws : List ℤ) where
           record { box = ltb-false hi lo l; after = another (ltb-true (cell + 1) n m) (at-field (next-is e) (r .rest)) }
       go false false true l m w e = clash (cc)
       go false false false l m w e =
-          record { box = ltb-false hi lo l; after = last (ltb-false (cell + 1) n m) (ltb-false 0 want w) (at-field (next-is e) (r .rest)) }
+          record { box = ltb-false hi lo l; after = last (ltb-false (cell + 1) n m) (omega (arith, ltb-false 0 (paired want lack / 8) w)) (at-field (next-is e) (r .rest)) }
 
   -- a cell that was read, and what is still wanted after it
   record OneCell (want lack column cell : ℕ) : Type 0 where
@@ -111,21 +111,21 @@ module _ (ws : List ℤ) where
     pub rest : At ws (LinkCount n) (H + 4 * n)
 
   -- what a weight counts of its row
-  counted : (lack i k : ℕ) → CellAllowed J i → full (lacking lack (weightOf i)) (positives J (i + 1) k) ≡ full lack (positives J i (suc k))
+  counted : (lack i k : ℕ) → CellAllowed J i → full (lackAfter lack (weightOf i)) (positives J (i + 1) k) ≡ full lack (positives J i (suc k))
   unfolding positives
   counted lack i k a = rw (a .weight .natural, add-one i) (lacks-less lack (weightOf i) (positives J (suc i) k))
 
-  ended : (lack i : ℕ) → CellAllowed J i → full (lacking lack (weightOf i)) 0 ≡ full lack (positives J i 1)
+  ended : (lack i : ℕ) → CellAllowed J i → full (lackAfter lack (weightOf i)) 0 ≡ full lack (positives J i 1)
   unfolding positives
   ended lack i a = counted lack i 0 a
 
   -- one cell, where those of its row after it are known
-  in-row : (want lack column i k r : ℕ) → i + 1 < n → OneCell want (lacking lack (weightOf i)) (column + 1) i
-      → (At ws (Crude (cellAt want (lacking lack (weightOf i)) (column + 1) (i + 1))) (H + 4 * (i + 1)) → AllCells want (lacking lack (weightOf i)) (i + 1) (suc k) r)
+  in-row : (want lack column i k r : ℕ) → i + 1 < n → OneCell want (lackAfter lack (weightOf i)) (column + 1) i
+      → (At ws (Crude (cellAt want (lackAfter lack (weightOf i)) (column + 1) (i + 1))) (H + 4 * (i + 1)) → AllCells want (lackAfter lack (weightOf i)) (i + 1) (suc k) r)
       → AllCells want lack i (suc (suc k)) r
   in-row want lack column i k r more o later = go (o .after)
     where
-      go : After want (lacking lack (weightOf i)) (column + 1) i (H + 4 * (i + 1)) → AllCells want lack i (suc (suc k)) r
+      go : After want (lackAfter lack (weightOf i)) (column + 1) i (H + 4 * (i + 1)) → AllCells want lack i (suc (suc k)) r
       go (another h t) =
           let l = later t in
           let e : i + suc (suc k) ≡ i + 1 + suc k = omega arith in
@@ -133,50 +133,61 @@ module _ (ws : List ℤ) where
       go (last h w t) = absurd (omega arith)
 
   -- the last cell of a row, where the rows after it are known
-  row-end : (want lack i r : ℕ) → i + 1 < n → OneCell (wanted want (lacking lack (weightOf i))) (acrossOf ws) 0 i
-      → (At ws (Crude (cellAt (wanted want (lacking lack (weightOf i))) (acrossOf ws) 0 (i + 1))) (H + 4 * (i + 1))
-      → AllCells (wanted want (lacking lack (weightOf i))) (acrossOf ws) (i + 1) (columnsOf ws) r)
+  row-end : (want lack i r : ℕ) → i + 1 < n → OneCell (wantAfter want (lackAfter lack (weightOf i))) (acrossOf ws) 0 i
+      → (At ws (Crude (cellAt (wantAfter want (lackAfter lack (weightOf i))) (acrossOf ws) 0 (i + 1))) (H + 4 * (i + 1))
+      → AllCells (wantAfter want (lackAfter lack (weightOf i))) (acrossOf ws) (i + 1) (columnsOf ws) r)
       → AllCells want lack i 1 (suc r)
   unfolding rowsHeld
   row-end want lack i r more o later = go (o .after)
     where
-      go : After (wanted want (lacking lack (weightOf i))) (acrossOf ws) 0 i (H + 4 * (i + 1)) → AllCells want lack i 1 (suc r)
+      go : After (wantAfter want (lackAfter lack (weightOf i))) (acrossOf ws) 0 i (H + 4 * (i + 1)) → AllCells want lack i 1 (suc r)
       go (another h t) =
           let l = later t in
           record {
             each = here-on (o .allowed) (l .each);
-            weights = rw (← ended lack i (o .allowed)) (row-held want (lacking lack (weightOf i)) (rowsHeld J (i + 1) (suc r)) (l .weights));
+            weights = rw (← ended lack i (o .allowed)) (row-held want (lackAfter lack (weightOf i)) (rowsHeld J (i + 1) (suc r)) (l .weights));
             rest = l .rest;
           }
       go (last h w t) = absurd (omega arith)
 
   -- the last cell
-  the-end : (want lack i : ℕ) → i + 1 ≡ n → OneCell (wanted want (lacking lack (weightOf i))) (acrossOf ws) 0 i → AllCells want lack i 1 0
+  the-end : (want lack i : ℕ) → i + 1 ≡ n → OneCell (wantAfter want (lackAfter lack (weightOf i))) (acrossOf ws) 0 i → AllCells want lack i 1 0
   unfolding rowsHeld
   the-end want lack i e o = go (o .after)
     where
-      go : After (wanted want (lacking lack (weightOf i))) (acrossOf ws) 0 i (H + 4 * (i + 1)) → AllCells want lack i 1 0
+      go : After (wantAfter want (lackAfter lack (weightOf i))) (acrossOf ws) 0 i (H + 4 * (i + 1)) → AllCells want lack i 1 0
       go (another h t) = absurd (omega arith)
       go (last h w t) = record {
         each = here-on (o .allowed) (λ j a b. absurd (omega arith));
-        weights = rw (← ended lack i (o .allowed)) (row-held want (lacking lack (weightOf i)) 0 w);
+        weights = rw (← ended lack i (o .allowed)) (row-held want (lackAfter lack (weightOf i)) 0 w);
         rest = at-place (H + 4 * n) (omega arith) t;
       }
 
-  pub all-cells : (m want lack column i k r : ℕ) → i + m ≡ n → column + k ≡ columnsOf ws → 1 ≤ k → m ≡ k + r * columnsOf ws
-      → At ws (Crude (cellAt want lack column i)) (H + 4 * i) → AllCells want lack i k r
-  all-cells zero want lack column i k r e c h q t = absurd (omega (arith, q))
-  all-cells (suc m) want lack column i zero r e c h q t = absurd (omega arith)
-  all-cells (suc m) want lack column i (suc zero) zero e c h q t =
-      let z = N.zero-mul (columnsOf ws) in
-      the-end want lack i (omega (arith, q, z))
-      (one-cell (cellAt want lack column i) (wanted want (lacking lack (weightOf i))) (acrossOf ws) 0 i (rw (le-ltb (column + 1) (columnsOf ws) (omega arith))) t)
-  all-cells (suc m) want lack column i (suc zero) (suc r) e c h q t =
-      let z = N.suc-mul r (columnsOf ws) in
-      row-end want lack i r (omega (arith, q, z))
-      (one-cell (cellAt want lack column i) (wanted want (lacking lack (weightOf i))) (acrossOf ws) 0 i (rw (le-ltb (column + 1) (columnsOf ws) (omega arith))) t)
-      (all-cells m (wanted want (lacking lack (weightOf i))) (acrossOf ws) 0 (i + 1) (columnsOf ws) r (omega arith) (omega arith) (omega arith) (omega (arith, q, z)))
-  all-cells (suc m) want lack column i (suc (suc k)) r e c h q t =
-      in-row want lack column i k r (omega (arith, q))
-      (one-cell (cellAt want lack column i) want (lacking lack (weightOf i)) (column + 1) i (rw (lt-ltb (column + 1) (columnsOf ws) (omega arith))) t)
-      (all-cells m want (lacking lack (weightOf i)) (column + 1) (i + 1) (suc k) r (omega arith) (omega arith) (omega arith) (omega (arith, q)))
+  -- what the order across is, and what a row lacks, leaves room for both in one number
+  module _ (few : acrossOf ws < 8) where
+    inside : (want lack column i : ℕ) → lack < 8 → column + 1 < columnsOf ws → At ws (Crude (cellAt want lack column i)) (H + 4 * i)
+        → OneCell want (lackAfter lack (weightOf i)) (column + 1) i
+    inside want lack column i small h t =
+        one-cell (cellAt want lack column i) want (lackAfter lack (weightOf i)) (column + 1) i
+        (weighed-inside n (columnsOf ws) (acrossOf ws) want lack column i (weightOf i) few small h) t
+
+    at-end : (want lack column i : ℕ) → lack < 8 → columnsOf ws ≤ column + 1 → At ws (Crude (cellAt want lack column i)) (H + 4 * i)
+        → OneCell (wantAfter want (lackAfter lack (weightOf i))) (acrossOf ws) 0 i
+    at-end want lack column i small h t =
+        one-cell (cellAt want lack column i) (wantAfter want (lackAfter lack (weightOf i))) (acrossOf ws) 0 i
+        (weighed-end n (columnsOf ws) (acrossOf ws) want lack column i (weightOf i) few small h) t
+
+    pub all-cells : (m want lack column i k r : ℕ) → lack < 8 → i + m ≡ n → column + k ≡ columnsOf ws → 1 ≤ k → m ≡ k + r * columnsOf ws
+        → At ws (Crude (cellAt want lack column i)) (H + 4 * i) → AllCells want lack i k r
+    all-cells zero want lack column i k r small e c h q t = absurd (omega (arith, q))
+    all-cells (suc m) want lack column i zero r small e c h q t = absurd (omega arith)
+    all-cells (suc m) want lack column i (suc zero) zero small e c h q t =
+        let z = N.zero-mul (columnsOf ws) in
+        the-end want lack i (omega (arith, q, z)) (at-end want lack column i small (omega arith) t)
+    all-cells (suc m) want lack column i (suc zero) (suc r) small e c h q t =
+        let z = N.suc-mul r (columnsOf ws) in
+        row-end want lack i r (omega (arith, q, z)) (at-end want lack column i small (omega arith) t)
+        (all-cells m (wantAfter want (lackAfter lack (weightOf i))) (acrossOf ws) 0 (i + 1) (columnsOf ws) r few (omega arith) (omega arith) (omega arith) (omega (arith, q, z)))
+    all-cells (suc m) want lack column i (suc (suc k)) r small e c h q t =
+        in-row want lack column i k r (omega (arith, q)) (inside want lack column i small (omega arith) t)
+        (all-cells m want (lackAfter lack (weightOf i)) (column + 1) (i + 1) (suc k) r (omega (arith, no-more lack (weightOf i))) (omega arith) (omega arith) (omega arith) (omega (arith, q)))

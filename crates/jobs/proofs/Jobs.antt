@@ -1,37 +1,28 @@
 -- A walk from the society to the end is an allowed job, and its words lie as the pack's numbers do.
-use Prim.Native.Nat.{ℕ, zero, suc, _+_, _-_, _*_, _≤_, _<_}
+use Prim.Native.Nat.{ℕ, zero, suc, _+_, _-_, _*_, _/_, _≤_, _<_}
 use mathlib.Core.Path.{_≡_, refl, sym, ap, subst}
-use mathlib.Core.Bool.{Bool, true, false, _&&_}
+use mathlib.Core.Bool.{Bool, true, false}
 use mathlib.Core.List.{List}
 use native.Mathlib.Nat as N
 use native.Mathlib.Omega.{arith}
-use borrow.Author.Tests.{leb-true, ltb-true, eqb-true, eqb-false, ne-eqb}
-use lib.Dec.{leb, ltb, eqb}
-use lib.IntN.{ℤ, pos, natAbs}
+use borrow.Author.Tests.{leb-true}
+use lib.Dec.{leb}
+use lib.IntN.{ℤ, natAbs}
 use Rattle.numbers.specs.Choice.{if_then_else_}
 use Rattle.numbers.proofs.Clash.{clash}
 use Rattle.fields.specs.declared.Field.{Field}
-use Rattle.fields.specs.declared.Field.the-variants.{Society, Job, Count, Order, Rows, Columns, OrderDown, OrderAcross, SecondConstant, Constant, Tolerance, LinkCount}
+use Rattle.fields.specs.declared.Field.the-variants.{Society, Job, Count, Order, Rows, Columns, OrderDown, OrderAcross, SecondConstant, Constant, Tolerance, Crude, LinkCount}
 use Rattle.fields.specs.declared.Step.the-variants.{Next}
-use Rattle.fields.specs.Table.{within, rule, orderUsed, lineOf, isLength, areColumns, isOrder, gridOf, withDown, withAcross, afterOrder, cellsFrom, linksFrom, stepOf}
-use Rattle.fields.proofs.Rows.{kept, within-both}
+use Rattle.fields.specs.Table.{rule, orderUsed, shaped, areColumns, isOrder, afterOrder, linksFrom, stepOf}
+use Rattle.fields.proofs.Rows.{kept, OrderTold, order-told, columns-told}
 use Rattle.jobs.specs.Words.{wordAt, countAt, cellsOf, isGrid, headWords, rowsOf, columnsOf, orderOf, acrossOf, secondOf, linksOf, startOf, jobOf}
 use Rattle.jobs.specs.Allowed.{Upto, Counted, CellAllowed, rowsHeld, ShapeAllowed, Allowed, GridLaid, Laid}
 use Rattle.jobs.proofs.Steps.{Steps}
-use Rattle.jobs.proofs.Shapes.{shapeAt, rows-line, columns-line, order-line, across-line, second-line, shape-line, rows-grid, columns-grid, order-grid, across-grid, second-grid, shape-grid}
+use Rattle.jobs.proofs.Shapes.{shapeAt, rows-line, columns-line, order-line, across-line, second-line, shape-line, rows-grid, columns-grid, order-grid, across-grid, second-grid, withColumns, withDown, withAcross, shape-grid}
 use Rattle.jobs.proofs.Places.{head-of-grid, head-of-line, head-some, start-zero}
 use Rattle.jobs.proofs.Taken.{At, at-first, at-place, at-field, row, next-is, plain}
-use Rattle.jobs.proofs.Cells.{AllCells, all-cells}
+use Rattle.jobs.proofs.Cells.{all-cells}
 use Rattle.jobs.proofs.Links.{AllLinks, all-links}
-
--- the order used is 1 to 4
-used-some : (x : ℕ) → 1 ≤ orderUsed x
-used-some zero = omega arith
-used-some (suc x) = rw (ne-eqb (suc x) 0 (omega arith)) (omega arith)
-
-used-few : (x : ℕ) → x ≤ 4 → orderUsed x ≤ 4
-used-few zero h = omega arith
-used-few (suc x) h = rw (ne-eqb (suc x) 0 (omega arith)) h
 
 -- the link count and the links
 record Linked (ws : List ℤ) : Type 0 where
@@ -47,7 +38,7 @@ linked ws t =
 
 -- the words of the shape, from the order field up to k
 module _ (ws : List ℤ) where
-  record Shaped : Type 0 where
+  record ShapeRead : Type 0 where
     pub counted : Counted ws 3
     pub laid : isGrid ws ≡ true → GridLaid ws
     pub shape : ShapeAllowed (jobOf ws) (isGrid ws)
@@ -60,23 +51,18 @@ module _ (ws : List ℤ) where
     pub second : Upto 999 (secondOf ws)
     pub rest : At ws (Constant (shapeAt ws) (natAbs (secondOf ws))) (headWords ws - 2)
 
-  -- a test of two parts that was passed
-  both : (a b : Bool) → (a && b) ≡ true → (a ≡ true) × (b ≡ true)
-  both true b e = (refl, e)
-  both false b e = clash (cc)
-
   -- a job that is no grid
   module _ (l : isGrid ws ≡ false) where
-    a-line : Counted ws 3 → countAt ws 3 ≤ 5 → orderUsed (countAt ws 3) < cellsOf ws → At ws (Constant (lineOf (cellsOf ws) (orderUsed (countAt ws 3))) 0) 4 → Shaped
-    a-line c few less t =
+    a-line : Counted ws 3 → OrderTold (cellsOf ws) (orderUsed (countAt ws 3)) → At ws (Constant (shaped (cellsOf ws) 1 (orderUsed (countAt ws 3)) 1) 0) 4 → ShapeRead
+    a-line c o t =
         record {
           counted = c;
           laid = λ e. clash (cc);
           shape = rw l (record { columns-one = columns-line ws l; across-one = across-line ws l; second-none = second-line ws l });
           cells-are = omega (arith, ap (λ (k : ℕ). rowsOf ws * k) (columns-line ws l), rows-line ws l);
-          order-some = rw (order-line ws l) (used-some (countAt ws 3));
-          order-few = rw (order-line ws l) (used-few (countAt ws 3) (omega (arith, few, eqb-false (countAt ws 3) 5 l)));
-          order-less = rw (order-line ws l, rows-line ws l) less;
+          order-some = rw (order-line ws l) (o .some);
+          order-few = rw (order-line ws l) (o .few);
+          order-less = rw (order-line ws l, rows-line ws l) (o .less);
           across-some = omega (arith, across-line ws l);
           across-few = omega (arith, across-line ws l);
           second = rw (second-line ws l) (record { natural = refl; small = omega arith });
@@ -85,55 +71,52 @@ module _ (ws : List ℤ) where
 
   -- a grid
   module _ (g : isGrid ws ≡ true) where
-    a-grid : Counted ws 3 → At ws (Rows (cellsOf ws)) 4 → Shaped
+    a-grid : Counted ws 3 → At ws (Rows (cellsOf ws)) 4 → ShapeRead
     unfolding stepOf
     a-grid c t =
         let n = cellsOf ws in
-        let r = row isLength (λ x. Next (Columns n x)) refl refl (λ x. refl) t in
-        let k = row (areColumns n (countAt ws 4)) (λ x. Next (OrderDown (gridOf n (countAt ws 4) x))) refl refl (λ x. refl) (at-field (next-is (r .next)) (r .rest)) in
-        let s = gridOf n (countAt ws 4) (countAt ws 5) in
-        let d = row (isOrder (countAt ws 4)) (λ x. Next (OrderAcross (withDown s x))) refl refl (λ x. refl) (at-field (next-is (k .next)) (k .rest)) in
-        let p = withDown s (countAt ws 6) in
-        let a = row (isOrder (countAt ws 5)) (λ x. Next (SecondConstant (withAcross p x))) refl refl (λ x. refl) (at-field (next-is (d .next)) (d .rest)) in
-        let q = withAcross p (countAt ws 7) in
-        let m = plain 1 999 (λ x. Constant q x) refl refl (λ x. refl) (at-field (next-is (a .next)) (a .rest)) in
-        let two = both (leb 2 (countAt ws 5)) (eqb (countAt ws 4 * countAt ws 5) n) (k .ok) in
-        let down = both (within 1 4 (countAt ws 6)) (ltb (countAt ws 6) (countAt ws 4)) (d .ok) in
-        let across = both (within 1 4 (countAt ws 7)) (ltb (countAt ws 7) (countAt ws 5)) (a .ok) in
-        let down-in = within-both 1 4 (countAt ws 6) (down .0) in
-        let across-in = within-both 1 4 (countAt ws 7) (across .0) in
+        let r = row (leb 2) (λ x. Next (Columns n x)) refl refl (λ x. refl) t in
+        let R = countAt ws 4 in
+        let k = row (areColumns n R) (λ x. Next (OrderDown (shaped n x 0 0) R)) refl refl (λ x. refl) (at-field (next-is (r .next)) (r .rest)) in
+        let p = withColumns ws g in
+        let d = row (isOrder R) (λ x. Next (OrderAcross (shaped n (p .row / 8) x 0))) refl refl (λ x. refl) (at-field (next-is (k .next)) (k .rest)) in
+        let q = withDown ws g in
+        let a = row (isOrder (q .row / 8)) (λ x. Next (SecondConstant (shaped n (q .row / 8) (q .want / 8) x))) refl refl (λ x. refl) (at-field (next-is (d .next)) (d .rest)) in
+        let m = plain 1 999 (λ x. Constant (withAcross ws g) x) refl refl (λ x. refl) (at-field (next-is (a .next)) (a .rest)) in
+        let columns = columns-told n R (countAt ws 5) (k .ok) in
+        let down = order-told R (countAt ws 6) (d .ok) in
+        let across = order-told (q .row / 8) (countAt ws 7) (a .ok) in
         record {
           counted = c;
           laid = λ e. record { rows = r .counted; columns = k .counted; down = d .counted; across = a .counted };
           shape = rw g (record {
             rows-some = rw (rows-grid ws g) (leb-true 2 (countAt ws 4) (r .ok));
-            columns-some = rw (columns-grid ws g) (leb-true 2 (countAt ws 5) (two .0));
-            across-less = rw (across-grid ws g, columns-grid ws g) (ltb-true (countAt ws 7) (countAt ws 5) (across .1));
+            columns-some = rw (columns-grid ws g) (columns .some);
+            across-less = rw (across-grid ws g, columns-grid ws g) (omega (arith, across .less));
             second-some = rw (second-grid ws g) (m .some);
           });
-          cells-are = rw (rows-grid ws g, columns-grid ws g) (eqb-true (countAt ws 4 * countAt ws 5) n (two .1));
-          order-some = rw (order-grid ws g) (down-in .0);
-          order-few = rw (order-grid ws g) (down-in .1);
-          order-less = rw (order-grid ws g, rows-grid ws g) (ltb-true (countAt ws 6) (countAt ws 4) (down .1));
-          across-some = rw (across-grid ws g) (across-in .0);
-          across-few = rw (across-grid ws g) (across-in .1);
+          cells-are = rw (rows-grid ws g, columns-grid ws g) (columns .product);
+          order-some = rw (order-grid ws g) (down .some);
+          order-few = rw (order-grid ws g) (down .few);
+          order-less = rw (order-grid ws g, rows-grid ws g) (down .less);
+          across-some = rw (across-grid ws g) (across .some);
+          across-few = rw (across-grid ws g) (across .few);
           second = rw (second-grid ws g) (m .range);
           rest = at-field (λ i. Constant (shape-grid ws g i) (natAbs (sym (second-grid ws g) i))) (at-place (headWords ws - 2) (omega (arith, head-of-grid ws g)) (m .rest));
         }
 
-  shaped : At ws (Order (cellsOf ws)) 3 → Shaped
+  shape-read : At ws (Order (cellsOf ws)) 3 → ShapeRead
   unfolding stepOf
-  shaped t =
-      let o = row (within 0 5) (afterOrder (cellsOf ws)) refl refl (λ x. refl) t in
-      go (within-both 0 5 (countAt ws 3) (o .ok) .1) (o .counted) (isGrid ws) refl (o .next) (o .rest)
+  shape-read t = let o = row (λ x. true) (afterOrder (cellsOf ws)) refl refl (λ x. refl) t in go (o .counted) (isGrid ws) refl (o .next) (o .rest)
     where
-      go : {g : Field} → countAt ws 3 ≤ 5 → Counted ws 3 → (b : Bool) → isGrid ws ≡ b
-          → (if b then Next (Rows (cellsOf ws)) else rule (ltb (orderUsed (countAt ws 3)) (cellsOf ws)) (Next (Constant (lineOf (cellsOf ws) (orderUsed (countAt ws 3))) 0))) ≡ Next g
-          → At ws g 4 → Shaped
-      go few c true e n t = a-grid e c (at-field (next-is n) t)
-      go few c false e n t =
-          let r = kept n in
-          a-line e c few (ltb-true (orderUsed (countAt ws 3)) (cellsOf ws) (r .ok)) (at-field (next-is (r .next)) t)
+      z : ℕ
+      z = orderUsed (countAt ws 3)
+
+      go : {g : Field} → Counted ws 3 → (b : Bool) → isGrid ws ≡ b
+          → (if b then Next (Rows (cellsOf ws)) else rule (isOrder (cellsOf ws) z) (Next (Constant (shaped (cellsOf ws) 1 z 1) 0))) ≡ Next g
+          → At ws g 4 → ShapeRead
+      go c true e n t = a-grid e c (at-field (next-is n) t)
+      go c false e n t = let r = kept n in a-line e c (order-told (cellsOf ws) z (r .ok)) (at-field (next-is (r .next)) t)
 
 -- the words from k up to the link count
 record Ordered (ws : List ℤ) : Type 0 where
@@ -145,16 +128,17 @@ record Ordered (ws : List ℤ) : Type 0 where
   pub weights : orderOf ws ≤ rowsHeld (jobOf ws) 0 (rowsOf ws)
   pub rest : At ws (LinkCount (cellsOf ws)) (headWords ws + 4 * cellsOf ws)
 
-ordered : (ws : List ℤ) → 2 ≤ cellsOf ws → Shaped ws → Ordered ws
+ordered : (ws : List ℤ) → 2 ≤ cellsOf ws → ShapeRead ws → Ordered ws
 unfolding stepOf rowsHeld
 ordered ws some s =
     let H = head-some ws in
     let k = plain 1 (1000 - natAbs (secondOf ws)) (λ x. Tolerance (shapeAt ws)) refl refl (λ x. refl) (s .rest) in
-    let m = plain 0 1000000000000000 (λ x. cellsFrom (shapeAt ws)) refl refl (λ x. refl) (at-place (headWords ws - 1) (omega arith) (k .rest)) in
+    let m = plain 0 1000000000000000 (λ x. Crude (shapeAt ws)) refl refl (λ x. refl) (at-place (headWords ws - 1) (omega arith) (k .rest)) in
     let r = rowsOf ws - 1 in
     let rows : rowsOf ws ≡ suc r = omega (arith, s .order-less) in
     let left : cellsOf ws ≡ columnsOf ws + r * columnsOf ws = omega (arith, s .cells-are, ap (λ (k : ℕ). k * columnsOf ws) rows, N.suc-mul r (columnsOf ws)) in
-    let a = all-cells ws (cellsOf ws) (orderOf ws) (acrossOf ws) 0 0 (columnsOf ws) r (omega arith) (omega arith) (some-column (columnsOf ws) r left) left (at-place (headWords ws + 4 * 0) (omega arith) (m .rest)) in
+    let few : acrossOf ws < 8 = omega (arith, s .across-few) in
+    let a = all-cells ws few (cellsOf ws) (orderOf ws) (acrossOf ws) 0 0 (columnsOf ws) r few (omega arith) (omega arith) (some-column (columnsOf ws) r left) left (at-place (headWords ws + 4 * 0) (omega arith) (m .rest)) in
     let start : 0 + columnsOf ws ≡ columnsOf ws = omega arith in
     record {
       constant = record { natural = k .range .natural; small = omega (arith, k .range .small) };
@@ -180,7 +164,7 @@ job-read {ws} t =
     let s = plain 0 7 (λ x. Job) refl refl (λ x. refl) (at-first t) in
     let j = plain 0 4294967295 (λ x. Count) refl refl (λ x. refl) (s .rest) in
     let n = plain 2 120 (λ x. Order x) refl refl (λ x. refl) (j .rest) in
-    let h = shaped ws (n .rest) in
+    let h = shape-read ws (n .rest) in
     let o = ordered ws (n .some) h in
     let l = linked ws (o .rest) in
     record {

@@ -1,16 +1,17 @@
 -- The shape of a job by its words, where it is a grid and where it is none.
-use Prim.Native.Nat.{ℕ}
+use Prim.Native.Nat.{_/_}
 use mathlib.Core.Path.{_≡_, sym}
 use mathlib.Core.Bool.{true, false}
 use mathlib.Core.List.{List}
+use native.Mathlib.Omega.{arith}
 use lib.IntN.{ℤ, pos}
-use Rattle.fields.specs.declared.shape.Shape.{Shape}
-use Rattle.fields.specs.Table.{orderUsed, lineOf, gridOf, withDown, withAcross}
+use Rattle.fields.specs.declared.cells.Cells.{Cells}
+use Rattle.fields.specs.Table.{orderUsed, shaped}
 use Rattle.jobs.specs.Words.{wordAt, countAt, cellsOf, isGrid, rowsOf, columnsOf, orderOf, acrossOf, secondOf}
 
 module _ (ws : List ℤ) where
-  abbrev pub shapeAt : Shape
-  shapeAt = record { n = cellsOf ws; rows = rowsOf ws; columns = columnsOf ws; down = orderOf ws; across = acrossOf ws }
+  abbrev pub shapeAt : Cells
+  shapeAt = shaped (cellsOf ws) (columnsOf ws) (orderOf ws) (acrossOf ws)
 
   module _ (e : isGrid ws ≡ false) where
     pub rows-line : rowsOf ws ≡ cellsOf ws
@@ -33,8 +34,8 @@ module _ (ws : List ℤ) where
     unfolding secondOf
     second-line = rw e
 
-    pub shape-line : lineOf (cellsOf ws) (orderUsed (countAt ws 3)) ≡ shapeAt
-    shape-line = λ i. record { n = cellsOf ws; rows = sym rows-line i; columns = sym columns-line i; down = sym order-line i; across = sym across-line i }
+    pub shape-line : shaped (cellsOf ws) 1 (orderUsed (countAt ws 3)) 1 ≡ shapeAt
+    shape-line = λ i. shaped (cellsOf ws) (sym columns-line i) (sym order-line i) (sym across-line i)
 
   module _ (e : isGrid ws ≡ true) where
     pub rows-grid : rowsOf ws ≡ countAt ws 4
@@ -57,5 +58,21 @@ module _ (ws : List ℤ) where
     unfolding secondOf
     second-grid = rw e
 
-    pub shape-grid : withAcross (withDown (gridOf (cellsOf ws) (countAt ws 4) (countAt ws 5)) (countAt ws 6)) (countAt ws 7) ≡ shapeAt
-    shape-grid = λ i. record { n = cellsOf ws; rows = sym rows-grid i; columns = sym columns-grid i; down = sym order-grid i; across = sym across-grid i }
+    -- as the walk makes it, number by number
+    abbrev pub withColumns : Cells
+    withColumns = shaped (cellsOf ws) (countAt ws 5) 0 0
+
+    abbrev pub withDown : Cells
+    withDown = shaped (cellsOf ws) (withColumns .row / 8) (countAt ws 6) 0
+
+    abbrev pub withAcross : Cells
+    withAcross = shaped (cellsOf ws) (withDown .row / 8) (withDown .want / 8) (countAt ws 7)
+
+    columns-carried : withDown .row / 8 ≡ columnsOf ws
+    columns-carried = omega (arith, columns-grid)
+
+    down-carried : withDown .want / 8 ≡ orderOf ws
+    down-carried = omega (arith, order-grid)
+
+    pub shape-grid : withAcross ≡ shapeAt
+    shape-grid = λ i. shaped (cellsOf ws) (columns-carried i) (down-carried i) (sym across-grid i)

@@ -15,7 +15,7 @@ use Rattle.numbers.proofs.Signs.{signs-written-back, stored-most}
 use Rattle.fields.specs.declared.links.Links.{Links}
 use Rattle.fields.specs.declared.Field.the-variants.{Cell, Coefficient, Bound}
 use Rattle.fields.specs.declared.Step.the-variants.{Next, Refused}
-use Rattle.fields.specs.Table.{afterCoefficient, linksFrom, stepOf}
+use Rattle.fields.specs.Table.{withLeast, afterCoefficient, linksFrom, stepOf}
 use Rattle.jobs.specs.Words.{wordAt, countAt, cellsOf, startOf, jobOf}
 use Rattle.jobs.specs.Allowed.{TermAllowed, Counted}
 use Rattle.jobs.proofs.Taken.{At, at-place, at-field, row, next-is, SignedRow, signed-row, here-on}
@@ -28,10 +28,7 @@ signed-some raw h = go (ltb 0 (natAbs (signedOf raw))) refl
     go true e = ltb-true 0 (natAbs (signedOf raw)) e
     go false e = absurd (h (omega (arith, stored-most (signedOf raw) 0 (ltb-false 0 (natAbs (signedOf raw)) e), signs-written-back raw)))
 
--- the link after a term whose cell is x, and with a term less to come
-abbrev named : Links → ℕ → Links
-named l x = record { n = l .n; links = l .links; link = l .link; terms = l .terms; least = x + 1 }
-
+-- the link with a term less to come
 abbrev fewer : Links → Links
 fewer l = record { n = l .n; links = l .links; link = l .link; terms = l .terms - 1; least = l .least }
 
@@ -41,24 +38,32 @@ data After (ws : List ℤ) (l : Links) (p : ℕ) : Type 0 where
   last : l .terms ≤ 1 → At ws (Bound l) p → After ws l p
 
 -- what a coefficient that lets the walk go on tells: it is not 0, and the term's cell rises
-record Risen (ws : List ℤ) (l : Links) (rises : Bool) (p : ℕ) : Type 0 where
+record Risen (ws : List ℤ) (l : Links) (p : ℕ) : Type 0 where
   pub some : 1 ≤ natAbs (wordAt ws p)
-  pub up : rises ≡ true
+  pub up : l .least ≡ 0 → ⊥
   pub after : After ws l (p + 1)
 
-risen : {ws : List ℤ} {p most : ℕ} (l : Links) (rises : Bool) → SignedRow ws p most (afterCoefficient l rises) → Risen ws l rises p
-risen {ws} {p} l rises r = go (eqb (r .raw) 0) rises (ltb 1 (l .terms)) refl refl refl (r .next)
+risen : {ws : List ℤ} {p most : ℕ} (l : Links) → SignedRow ws p most (afterCoefficient l) → Risen ws l p
+risen {ws} {p} l r = go (eqb (r .raw) 0) (eqb (l .least) 0) (ltb 1 (l .terms)) refl refl refl (r .next)
   where
     some : eqb (r .raw) 0 ≡ false → 1 ≤ natAbs (wordAt ws p)
     some q = rw (r .is) (signed-some (r .raw) (eqb-false (r .raw) 0 q))
 
-    go : (a b d : Bool) → eqb (r .raw) 0 ≡ a → rises ≡ b → ltb 1 (l .terms) ≡ d
-        → (if a then Refused 5 (l .link) else if b then (if d then Next (Cell (fewer l)) else Next (Bound l)) else Refused 5 (l .link)) ≡ Next (r .g)
-        → Risen ws l rises p
+    go : (a b d : Bool) → eqb (r .raw) 0 ≡ a → eqb (l .least) 0 ≡ b → ltb 1 (l .terms) ≡ d
+        → (if a then Refused 5 (l .link) else if b then Refused 5 (l .link) else if d then Next (Cell (fewer l)) else Next (Bound l)) ≡ Next (r .g)
+        → Risen ws l p
     go true b d q u m e = clash (cc)
-    go false true true q u m e = record { some = some q; up = u; after = another (ltb-true 1 (l .terms) m) (at-field (next-is e) (r .rest)) }
-    go false true false q u m e = record { some = some q; up = u; after = last (ltb-false 1 (l .terms) m) (at-field (next-is e) (r .rest)) }
-    go false false d q u m e = clash (cc)
+    go false true d q u m e = clash (cc)
+    go false false true q u m e = record {
+      some = some q;
+      up = eqb-false (l .least) 0 u;
+      after = another (ltb-true 1 (l .terms) m) (at-field (next-is e) (r .rest));
+    }
+    go false false false q u m e = record {
+      some = some q;
+      up = eqb-false (l .least) 0 u;
+      after = last (ltb-false 1 (l .terms) m) (at-field (next-is e) (r .rest));
+    }
 
 -- a term whose cell stands at p
 record OneTerm (ws : List ℤ) (l : Links) (p : ℕ) : Type 0 where
@@ -67,23 +72,24 @@ record OneTerm (ws : List ℤ) (l : Links) (p : ℕ) : Type 0 where
   pub rises : l .least ≤ countAt ws p
   pub small : natAbs (wordAt ws (p + 1)) ≤ 10
   pub some : 1 ≤ natAbs (wordAt ws (p + 1))
-  pub after : After ws (named l (countAt ws p)) (p + 1 + 1)
+  pub after : After ws (withLeast l (countAt ws p + 1)) (p + 1 + 1)
 
 one-term : (ws : List ℤ) (l : Links) (p : ℕ) → At ws (Cell l) p → OneTerm ws l p
 unfolding stepOf
 one-term ws l p t =
-    let x = countAt ws p in
-    let k = row (λ x. ltb x (l .n)) (λ x. Next (Coefficient (named l x) (leb (l .least) x))) refl refl (λ x. refl) t in
-    let c = signed-row 10 (afterCoefficient (named l x) (leb (l .least) x)) refl refl (λ x. refl) (at-field (next-is (k .next)) (k .rest)) in
-    let w = risen (named l x) (leb (l .least) x) c in
-    record {
-      counted = k .counted;
-      cell = ltb-true x (l .n) (k .ok);
-      rises = leb-true (l .least) x (w .up);
-      small = c .small;
-      some = w .some;
-      after = w .after;
-    }
+    let k = row (λ x. ltb x (l .n)) (λ x. Next (Coefficient (withLeast l (if leb (l .least) x then x + 1 else 0)))) refl refl (λ x. refl) t in
+    go (k .counted) (k .ok) (leb (l .least) x) refl (at-field (next-is (k .next)) (k .rest))
+  where
+    x : ℕ
+    x = countAt ws p
+
+    go : Counted ws p → ltb x (l .n) ≡ true → (b : Bool) → leb (l .least) x ≡ b → At ws (Coefficient (withLeast l (if b then x + 1 else 0))) (p + 1)
+        → OneTerm ws l p
+    go n h true e t =
+        let c = signed-row 10 (afterCoefficient (withLeast l (x + 1))) refl refl (λ x. refl) t in
+        let w = risen (withLeast l (x + 1)) c in
+        record { counted = n; cell = ltb-true x (l .n) h; rises = leb-true (l .least) x e; small = c .small; some = w .some; after = w .after }
+    go n h false e t = absurd (risen (withLeast l 0) (signed-row 10 (afterCoefficient (withLeast l 0)) refl refl (λ x. refl) t) .up refl)
 
 -- the terms of the link j
 module _ (ws : List ℤ) (j : ℕ) where
@@ -125,9 +131,9 @@ module _ (ws : List ℤ) (j : ℕ) where
     unfolding stepOf
     from-term later some = go (o .after)
       where
-        go : After ws (named l (countAt ws (cellOf m))) (cellOf m + 1 + 1) → AllTerms l m
+        go : After ws (withLeast l (countAt ws (cellOf m) + 1)) (cellOf m + 1 + 1) → AllTerms l m
         go (another h t) =
-            let d = fewer (named l (countAt ws (cellOf m))) in
+            let d = fewer (withLeast l (countAt ws (cellOf m) + 1)) in
             let r = later d cells-are (omega arith) (omega arith) (at-place (cellOf (m + 1)) (omega arith) t) in
             record {
               each = here-on (term-read (λ u. rw (← add-one m) (omega (arith, r .first)))) (r .each);

@@ -1,13 +1,13 @@
 -- Every job that is allowed is written: the walk along the fields stops at none of its words.
-use Prim.Native.Nat.{ℕ, zero, suc, _+_, _-_, _*_, _≤_, _<_}
+use Prim.Native.Nat.{ℕ, zero, suc, _+_, _-_, _*_, _/_, _≤_, _<_}
 use mathlib.Core.Path.{_≡_, refl, sym, ap, subst, _∙_}
 use mathlib.Core.Bool.{Bool, true, false}
 use mathlib.Core.List.{List, []}
 use native.Mathlib.Nat as N
 use native.Mathlib.Numerals.{add-one}
 use native.Mathlib.Omega.{arith}
-use borrow.Author.Tests.{lt-ltb, le-ltb, le-leb, eq-eqb, ne-eqb, eqb-true}
-use lib.Dec.{ltb, eqb}
+use borrow.Author.Tests.{lt-ltb, le-ltb, le-leb, eq-eqb, ne-eqb}
+use lib.Dec.{ltb}
 use lib.IntN.{ℤ, pos, negsuc, natAbs}
 use lib.ListN.{length, drop, drop-of-length-le}
 use lib.Seq.{drop-cons}
@@ -19,16 +19,17 @@ use Rattle.fields.specs.declared.links.Links.{Links}
 use Rattle.fields.specs.declared.Field.{Field}
 use Rattle.fields.specs.declared.Field.the-variants.{Society, Job, Count, Order, Rows, Columns, OrderDown, OrderAcross, SecondConstant, Constant, Tolerance, Crude, Weight, Floor, Ceiling, LinkCount, TermCount, Cell, Coefficient, Bound}
 use Rattle.fields.specs.declared.Step.the-variants.{Next, Refused}
-use Rattle.fields.specs.Table.{within, orderUsed, lineOf, gridOf, withDown, withAcross, lacking, wanted, weighed, linksFrom, signedAt, endAt, stepOf}
+use Rattle.fields.specs.Table.{within, orderUsed, paired, shaped, weighed, linksFrom, signedAt, endAt, stepOf}
 use Rattle.whole.proofs.Order.{pos-le}
 use Rattle.packs.specs.declared.Outcome.the-variants.{Done}
 use Rattle.packs.specs.declared.words.Raw.the-variants.{Number}
 use Rattle.packs.specs.Writing.{rawOf, writeFrom}
 use Rattle.jobs.specs.Words.{wordAt, countAt, cellsOf, isGrid, headWords, rowsOf, columnsOf, orderOf, acrossOf, secondOf, linksOf, startOf, jobOf}
 use Rattle.jobs.specs.Allowed.{Allowed, GridAllowed, ShapeAllowed, TermAllowed, positives, rowsHeld, Laid}
-use Rattle.jobs.proofs.Places.{head-of-grid, head-of-line, head-some, columns-some}
-use Rattle.jobs.proofs.Shapes.{shapeAt, rows-line, order-line, second-line, shape-line, rows-grid, columns-grid, order-grid, across-grid, second-grid, shape-grid}
-use Rattle.jobs.proofs.Weights.{full, lacks-less, held-row}
+use Rattle.jobs.proofs.Places.{head-of-grid, head-of-line, head-some, columns-some, columns-few}
+use Rattle.jobs.proofs.Shapes.{shapeAt, rows-line, order-line, second-line, shape-line, rows-grid, columns-grid, order-grid, across-grid, second-grid, withColumns, withDown, withAcross, shape-grid}
+use Rattle.jobs.proofs.Weights as W
+use Rattle.jobs.proofs.Weights.{lackAfter, wantAfter, no-more, pair-first, weighed-inside, weighed-end, full, lacks-less, held-row}
 use Rattle.jobs.specs.Packs.{writeJob}
 
 pub within-most : (least most x : ℕ) → least ≤ x → x ≤ most → within least most x ≡ true
@@ -72,13 +73,6 @@ stored-some (pos n) h = omega arith
 stored-some (negsuc n) h = omega arith
 
 -- ---- a job
-
-order-field : (x : ℕ) → orderUsed x ≤ 4 → x ≤ 5
-order-field x h = go (eqb x 0) refl h
-  where
-    go : (t : Bool) → eqb x 0 ≡ t → (if t then 2 else x) ≤ 4 → x ≤ 5
-    go true e h = omega (arith, eqb-true x 0 e)
-    go false e h = omega arith
 
 module _ (ws : List ℤ) (L : Laid ws) (A : Allowed (jobOf ws)) where
   abbrev n : ℕ
@@ -134,10 +128,10 @@ module _ (ws : List ℤ) (L : Laid ws) (A : Allowed (jobOf ws)) where
       let room = head in
       let six = head-of-line ws l in
       let z = orderUsed (countAt ws 3) in
-      let less : z < n = omega (arith, A .order-less, order-line ws l, rows-line ws l) in
-      let few = order-field (countAt ws 3) (omega (arith, A .order-few, order-line ws l)) in
-      let d : At 4 (Constant (lineOf n z) 0) =
-      plain at-order (omega arith) refl refl (L .order) (rw (within-most 0 5 (countAt ws 3) (omega arith) few, l, lt-ltb z n less)) in
+      let e = order-line ws l in
+      let d : At 4 (Constant (shaped n 1 z 1) 0) =
+      plain at-order (omega arith) refl refl (L .order)
+      (rw (l, within-most 1 4 z (omega (arith, A .order-some, e)) (omega (arith, A .order-few, e)), lt-ltb z n (omega (arith, A .order-less, e, rows-line ws l)))) in
       stands-as (λ i. Constant (shape-line ws l i) (natAbs (sym (second-line ws l) i))) (stands-at (omega arith) d)
 
   constant-of-grid : isGrid ws ≡ true → At (H - 2) (Constant (shapeAt ws) (natAbs (secondOf ws)))
@@ -155,18 +149,20 @@ module _ (ws : List ℤ) (L : Laid ws) (A : Allowed (jobOf ws)) where
       let second-small : countAt ws 8 ≤ 999 = rw (second-grid ws g) at (A .second .small) in
       let second-some : 1 ≤ countAt ws 8 = rw (second-grid ws g) at (G .second-some) in
       let product : R * C ≡ n = rw (rows-grid ws g, columns-grid ws g) at (A .cells-are) in
-      let five : countAt ws 3 ≤ 5 = omega (arith, eqb-true (countAt ws 3) 5 g) in
-      let a : At 4 (Rows n) = plain at-order (omega arith) refl refl (L .order) (rw (within-most 0 5 (countAt ws 3) (omega arith) five, g)) in
+      let columns-few : C ≤ 120 = omega (arith, A .cells-few, columns-few L A, columns-grid ws g) in
+      let a : At 4 (Rows n) = plain at-order (omega arith) refl refl (L .order) (rw g) in
       let b : At 5 (Columns n R) = plain a (omega arith) refl refl (K .rows) (rw (le-leb 2 R (omega (arith, G .rows-some, rows-grid ws g)))) in
-      let c : At 6 (OrderDown (gridOf n R C)) =
-      plain b (omega arith) refl refl (K .columns) (rw (le-leb 2 C (omega (arith, G .columns-some, columns-grid ws g)), eq-eqb (R * C) n product)) in
-      let d : At 7 (OrderAcross (withDown (gridOf n R C) D)) =
+      let c : At 6 (OrderDown (withColumns ws g) R) =
+      plain b (omega arith) refl refl (K .columns)
+      (rw (within-most 2 120 C (omega (arith, G .columns-some, columns-grid ws g)) columns-few, eq-eqb (R * C) n product)) in
+      let d : At 7 (OrderAcross (withDown ws g)) =
       plain c (omega arith) refl refl (K .down)
       (rw (within-most 1 4 D (omega (arith, A .order-some, order-grid ws g)) (omega (arith, A .order-few, order-grid ws g)), lt-ltb D R (omega (arith, A .order-less, order-grid ws g, rows-grid ws g)))) in
-      let e : At 8 (SecondConstant (withAcross (withDown (gridOf n R C) D) X)) =
+      let q = withDown ws g in
+      let e : At 8 (SecondConstant (withAcross ws g)) =
       plain d (omega arith) refl refl (K .across)
-      (rw (within-most 1 4 X (omega (arith, A .across-some, across-grid ws g)) (omega (arith, A .across-few, across-grid ws g)), lt-ltb X C (omega (arith, G .across-less, across-grid ws g, columns-grid ws g)))) in
-      let f : At 9 (Constant (withAcross (withDown (gridOf n R C) D) X) (countAt ws 8)) =
+      (rw (within-most 1 4 X (omega (arith, A .across-some, across-grid ws g)) (omega (arith, A .across-few, across-grid ws g)), lt-ltb X (q .row / 8) (omega (arith, G .across-less, across-grid ws g, columns-grid ws g)))) in
+      let f : At 9 (Constant (withAcross ws g) (countAt ws 8)) =
       plain e (omega arith) refl refl second (rw (within-most 1 999 (countAt ws 8) second-some second-small)) in
       stands-as (λ i. Constant (shape-grid ws g i) (natAbs (sym (second-grid ws g) i))) (stands-at (omega arith) f)
 
@@ -176,8 +172,7 @@ module _ (ws : List ℤ) (L : Laid ws) (A : Allowed (jobOf ws)) where
 
   -- one cell
   abbrev cellAt : (want lack column i : ℕ) → Cells
-  cellAt want lack column i =
-      record { n = n; columns = columnsOf ws; across = acrossOf ws; want = want; lack = lack; column = column; cell = i }
+  cellAt want lack column i = W.cellAt n (columnsOf ws) (acrossOf ws) want lack column i
 
   first-cell : At (H + 4 * 0) (Crude (cellAt (orderOf ws) (acrossOf ws) 0 0))
   unfolding stepOf
@@ -199,7 +194,7 @@ module _ (ws : List ℤ) (L : Laid ws) (A : Allowed (jobOf ws)) where
 
   -- the cell i, after whose weight d is wanted
   cell-on : (c : Cells) (want lack column i : ℕ) → i < n → weighed c (weightOf i) ≡ cellAt want lack column i → At (H + 4 * i) (Crude c) → (g : Field)
-      → (if ltb (i + 1) n then Next (Crude (cellAt want lack column (i + 1))) else if ltb 0 want then Refused 4 0 else Next (LinkCount n)) ≡ Next g
+      → (if ltb (i + 1) n then Next (Crude (cellAt want lack column (i + 1))) else if ltb 0 (paired want lack / 8) then Refused 4 0 else Next (LinkCount n)) ≡ Next g
       → At (H + 4 * (i + 1)) g
   unfolding stepOf
   cell-on c want lack column i h q w g s =
@@ -216,43 +211,50 @@ module _ (ws : List ℤ) (L : Laid ws) (A : Allowed (jobOf ws)) where
       stands-at (omega arith)
       (plain d (omega arith) refl refl (C .ceiling .natural) (rw (within-most 0 1000000 hi (omega arith) (C .ceiling .small), le-ltb hi lo (box-order i h)) s))
 
-  counted : (lack i k : ℕ) → i < n → full (lacking lack (weightOf i)) (positives (jobOf ws) (i + 1) k) ≡ full lack (positives (jobOf ws) i (suc k))
+  counted : (lack i k : ℕ) → i < n → full (lackAfter lack (weightOf i)) (positives (jobOf ws) (i + 1) k) ≡ full lack (positives (jobOf ws) i (suc k))
   unfolding positives
   counted lack i k h = rw (A .cell i h .weight .natural, add-one i) (lacks-less lack (weightOf i) (positives (jobOf ws) (suc i) k))
 
-  ended : (lack i : ℕ) → i < n → full (lacking lack (weightOf i)) 0 ≡ full lack (positives (jobOf ws) i 1)
+  ended : (lack i : ℕ) → i < n → full (lackAfter lack (weightOf i)) 0 ≡ full lack (positives (jobOf ws) i 1)
   unfolding positives
   ended lack i h = counted lack i 0 h
 
+  few : acrossOf ws < 8
+  few = omega (arith, A .across-few)
+
   -- k cells of the row of the cell i, then r rows
-  cells-on : (m want lack column i k r : ℕ) → i + m ≡ n → column + k ≡ columnsOf ws → 1 ≤ k → m ≡ k + r * columnsOf ws
+  cells-on : (m want lack column i k r : ℕ) → lack < 8 → i + m ≡ n → column + k ≡ columnsOf ws → 1 ≤ k → m ≡ k + r * columnsOf ws
       → want ≤ full lack (positives (jobOf ws) i k) + rowsHeld (jobOf ws) (i + k) r
       → At (H + 4 * i) (Crude (cellAt want lack column i)) → At (H + 4 * n) (LinkCount n)
   unfolding rowsHeld
-  cells-on zero want lack column i k r e c h q l w = absurd (omega (arith, q))
-  cells-on (suc m) want lack column i zero r e c h q l w = absurd (omega arith)
-  cells-on (suc m) want lack column i (suc zero) zero e c h q l w =
+  cells-on zero want lack column i k r small e c h q l w = absurd (omega (arith, q))
+  cells-on (suc m) want lack column i zero r small e c h q l w = absurd (omega arith)
+  cells-on (suc m) want lack column i (suc zero) zero small e c h q l w =
       let z = N.zero-mul (columnsOf ws) in
-      let x = lacking lack (weightOf i) in
+      let x = lackAfter lack (weightOf i) in
       let in-cells : i < n = omega arith in
-      let none : wanted want x ≤ 0 = held-row want x 0 (rw (ended lack i in-cells) l) in
+      let none : wantAfter want x ≤ 0 = held-row want x 0 (rw (ended lack i in-cells) l) in
+      let weight = weighed-end n (columnsOf ws) (acrossOf ws) want lack column i (weightOf i) few small (omega arith) in
       stands-at (omega (arith, q, z))
-      (cell-on (cellAt want lack column i) (wanted want x) (acrossOf ws) 0 i in-cells (rw (le-ltb (column + 1) (columnsOf ws) (omega arith))) w (LinkCount n)
-      (rw (le-ltb (i + 1) n (omega (arith, q, z)), le-ltb 0 (wanted want x) none)))
-  cells-on (suc m) want lack column i (suc zero) (suc r) e c h q l w =
+      (cell-on (cellAt want lack column i) (wantAfter want x) (acrossOf ws) 0 i in-cells weight w (LinkCount n)
+      (rw (le-ltb (i + 1) n (omega (arith, q, z)), pair-first (wantAfter want x) (acrossOf ws) few, le-ltb 0 (wantAfter want x) none)))
+  cells-on (suc m) want lack column i (suc zero) (suc r) small e c h q l w =
       let z = N.suc-mul r (columnsOf ws) in
-      let x = lacking lack (weightOf i) in
+      let x = lackAfter lack (weightOf i) in
       let in-cells : i < n = omega arith in
-      let left : wanted want x ≤ rowsHeld (jobOf ws) (i + 1) (suc r) = held-row want x (rowsHeld (jobOf ws) (i + 1) (suc r)) (rw (ended lack i in-cells) l) in
-      cells-on m (wanted want x) (acrossOf ws) 0 (i + 1) (columnsOf ws) r (omega arith) (omega arith) (columns-some L A) (omega (arith, q, z)) left
-      (cell-on (cellAt want lack column i) (wanted want x) (acrossOf ws) 0 i in-cells (rw (le-ltb (column + 1) (columnsOf ws) (omega arith))) w
-      (Crude (cellAt (wanted want x) (acrossOf ws) 0 (i + 1))) (rw (lt-ltb (i + 1) n (omega (arith, q, z, columns-some L A)))))
-  cells-on (suc m) want lack column i (suc (suc k)) r e c h q l w =
-      let x = lacking lack (weightOf i) in
+      let left : wantAfter want x ≤ rowsHeld (jobOf ws) (i + 1) (suc r) = held-row want x (rowsHeld (jobOf ws) (i + 1) (suc r)) (rw (ended lack i in-cells) l) in
+      let weight = weighed-end n (columnsOf ws) (acrossOf ws) want lack column i (weightOf i) few small (omega arith) in
+      cells-on m (wantAfter want x) (acrossOf ws) 0 (i + 1) (columnsOf ws) r few (omega arith) (omega arith) (columns-some L A) (omega (arith, q, z)) left
+      (cell-on (cellAt want lack column i) (wantAfter want x) (acrossOf ws) 0 i in-cells weight w
+      (Crude (cellAt (wantAfter want x) (acrossOf ws) 0 (i + 1))) (rw (lt-ltb (i + 1) n (omega (arith, q, z, columns-some L A)))))
+  cells-on (suc m) want lack column i (suc (suc k)) r small e c h q l w =
+      let x = lackAfter lack (weightOf i) in
       let in-cells : i < n = omega arith in
       let on : i + 1 + suc k ≡ i + suc (suc k) = omega arith in
-      cells-on m want x (column + 1) (i + 1) (suc k) r (omega arith) (omega arith) (omega arith) (omega (arith, q)) (rw (counted lack i (suc k) in-cells, on) l)
-      (cell-on (cellAt want lack column i) want x (column + 1) i in-cells (rw (lt-ltb (column + 1) (columnsOf ws) (omega arith))) w
+      let weight = weighed-inside n (columnsOf ws) (acrossOf ws) want lack column i (weightOf i) few small (omega arith) in
+      cells-on m want x (column + 1) (i + 1) (suc k) r (omega (arith, no-more lack (weightOf i))) (omega arith) (omega arith) (omega arith) (omega (arith, q))
+      (rw (counted lack i (suc k) in-cells, on) l)
+      (cell-on (cellAt want lack column i) want x (column + 1) i in-cells weight w
       (Crude (cellAt want x (column + 1) (i + 1))) (rw (lt-ltb (i + 1) n (omega (arith, q)))))
 
   -- one link
@@ -274,7 +276,7 @@ module _ (ws : List ℤ) (L : Laid ws) (A : Allowed (jobOf ws)) where
 
     -- the cell of the term m, of which r + 1 are left
     cell-named : (r m least : ℕ) → m + suc r ≡ t → least ≤ countAt ws (S + 1 + 2 * m) → At (S + 1 + 2 * m) (Cell (linkAt l (suc r) least))
-        → At (S + 2 + 2 * m) (Coefficient (linkAt l (suc r) (countAt ws (S + 1 + 2 * m) + 1)) true)
+        → At (S + 2 + 2 * m) (Coefficient (linkAt l (suc r) (countAt ws (S + 1 + 2 * m) + 1)))
     unfolding stepOf
     cell-named r m least e q w =
         let x = countAt ws (S + 1 + 2 * m) in
@@ -282,28 +284,28 @@ module _ (ws : List ℤ) (L : Laid ws) (A : Allowed (jobOf ws)) where
         (plain w (omega (arith, room, e)) refl refl (L .cell l m h (omega (arith, e))) (rw (lt-ltb x n (term-allowed m r e .cell), le-leb least x q)))
 
     -- its coefficient
-    coefficient-on : (r m y : ℕ) → m + suc r ≡ t → At (S + 2 + 2 * m) (Coefficient (linkAt l (suc r) y) true) → (g : Field)
+    coefficient-on : (r m y : ℕ) → m + suc r ≡ t → 1 ≤ y → At (S + 2 + 2 * m) (Coefficient (linkAt l (suc r) y)) → (g : Field)
         → (if ltb 1 (suc r) then Next (Cell (linkAt l (suc r - 1) y)) else Next (Bound (linkAt l (suc r) y))) ≡ Next g → At (S + 1 + 2 * (m + 1)) g
     unfolding stepOf
-    coefficient-on r m y e w g s =
+    coefficient-on r m y e up w g s =
         let c = wordAt ws (S + 2 + 2 * m) in
         let T = term-allowed m r e in
         stands-at (omega arith)
         (on w (omega (arith, room, e)) refl (storedOf c) refl
-        (rw (within-most 0 20 (storedOf c) (omega arith) (stored-small c 10 (T .coefficient-small)), ne-eqb (storedOf c) 0 (omega (arith, stored-some c (T .coefficient-some)))) s))
+        (rw (within-most 0 20 (storedOf c) (omega arith) (stored-small c 10 (T .coefficient-small)), ne-eqb (storedOf c) 0 (omega (arith, stored-some c (T .coefficient-some))), ne-eqb y 0 (omega arith)) s))
 
     -- the terms from the term m on
     terms-on : (r m least : ℕ) → m + suc r ≡ t → least ≤ countAt ws (S + 1 + 2 * m) → At (S + 1 + 2 * m) (Cell (linkAt l (suc r) least))
         → (after : ℕ) × At (S + 1 + 2 * t) (Bound (linkAt l 1 after))
     terms-on zero m least e q w =
         let y = countAt ws (S + 1 + 2 * m) + 1 in
-        (y, stands-at (omega (arith, e)) (coefficient-on 0 m y e (cell-named 0 m least e q w) (Bound (linkAt l 1 y)) refl))
+        (y, stands-at (omega (arith, e)) (coefficient-on 0 m y e (omega arith) (cell-named 0 m least e q w) (Bound (linkAt l 1 y)) refl))
     terms-on (suc r) m least e q w =
         let x = countAt ws (S + 1 + 2 * m) in
         let y = x + 1 in
         let less : suc (suc r) - 1 ≡ suc r = omega arith in
         let next : At (S + 1 + 2 * (m + 1)) (Cell (linkAt l (suc r) y)) =
-        coefficient-on (suc r) m y e (cell-named (suc r) m least e q w) (Cell (linkAt l (suc r) y)) (rw (lt-ltb 1 (suc (suc r)) (omega arith), less)) in
+        coefficient-on (suc r) m y e (omega arith) (cell-named (suc r) m least e q w) (Cell (linkAt l (suc r) y)) (rw (lt-ltb 1 (suc (suc r)) (omega arith), less)) in
         let rises : x < countAt ws (S + 1 + 2 * suc m) = term-allowed m (suc r) e .rising (omega (arith, e)) in
         terms-on r (m + 1) y (omega (arith, e)) (rw (add-one m) (omega (arith, rises))) next
 
@@ -337,7 +339,7 @@ module _ (ws : List ℤ) (L : Laid ws) (A : Allowed (jobOf ws)) where
       let rows : rowsOf ws ≡ suc r = omega (arith, A .order-less) in
       let left : n ≡ columnsOf ws + r * columnsOf ws = omega (arith, A .cells-are, ap (λ (k : ℕ). k * columnsOf ws) rows, N.suc-mul r (columnsOf ws)) in
       let c : At (H + 4 * n) (LinkCount n) =
-      cells-on n (orderOf ws) (acrossOf ws) 0 0 (columnsOf ws) r (omega arith) (omega arith) (columns-some L A) left
+      cells-on n (orderOf ws) (acrossOf ws) 0 0 (columnsOf ws) r few (omega arith) (omega arith) (columns-some L A) left
       (subst (λ (k : ℕ). orderOf ws ≤ rowsHeld (jobOf ws) 0 k) rows (A .weights)) first-cell in
       let d : At (startOf ws 0) (linksFrom n links 0) =
       stands-at (omega (arith, start-first)) (plain c (omega arith) refl refl (L .links) (rw (within-most 0 160 links (omega arith) (A .links-few)))) in

@@ -1,6 +1,6 @@
 -- One direction after the other: the differences down, then those across.
 use Rattle.whole.proofs.Fits.{fits-by, gives}
-use Rattle.measure.proofs.Directions.{both-is, both-slopes, first-call, rough-fits, second-call}
+use Rattle.measure.proofs.Directions.{both-is, both-added, first-call, rough-fits, second-call}
 use borrow.Author.Needs.{needs}
 use Rattle.measure.proofs.smooth.smoothed.Statement.{statement}
 use Rattle.measure.proofs.smooth.smoothed.Tie as tie
@@ -33,7 +33,7 @@ same-length : tie.Need-same-length
 same-length c = search needs
 
 returns : tie.Need-returns
-returns c = (gives (both-is (c .before .before .before .before .before .before .before .before .before .before .before .pre) (c .before .before .before .before .before .before .before .before .before .before .order-of .ensures) (c .before .before .before .before .before .before .before .before .before .columns-of .ensures) (c .before .before .before .before .before .before .before .before .constant-of .ensures) (c .before .before .before .before .before .before .smooth .ensures .0) (c .before .before .before .before .before .before .smooth .ensures .1) (c .before .before .before .before .across-of .ensures) (c .before .before .before .second-of .ensures) (c .before .smooth2 .ensures .0) (c .before .smooth2 .ensures .1)) (rough-fits (c .before .before .before .before .before .before .before .before .before .before .before .pre .given)), both-slopes (c .before .before .before .before .before .before .before .before .before .before .before .pre) (c .before .before .before .before .before .before .before .before .before .before .order-of .ensures) (c .before .before .before .before .before .before .before .before .before .columns-of .ensures) (c .before .before .before .before .before .before .before .before .constant-of .ensures) (c .before .before .before .before .before .before .smooth .ensures .0) (c .before .before .before .before .before .before .smooth .ensures .1) (c .before .before .before .before .across-of .ensures) (c .before .before .before .second-of .ensures) (c .before .smooth2 .ensures .0) (c .before .smooth2 .ensures .1))
+returns c = (gives (both-is (c .before .before .before .before .before .before .before .before .before .before .before .pre) (c .before .before .before .before .before .before .before .before .before .before .order-of .ensures) (c .before .before .before .before .before .before .before .before .before .columns-of .ensures) (c .before .before .before .before .before .before .before .before .constant-of .ensures) (c .before .before .before .before .before .before .smooth .ensures .0) (c .before .before .before .before .before .before .smooth .ensures .1) (c .before .before .before .before .across-of .ensures) (c .before .before .before .second-of .ensures) (c .before .smooth2 .ensures .0) (c .before .smooth2 .ensures .1)) (rough-fits (c .before .before .before .before .before .before .before .before .before .before .before .pre .given)), both-added (c .before .before .before .before .before .before .before .before .before .before .before .pre) (c .before .before .before .before .before .before .before .before .before .before .order-of .ensures) (c .before .before .before .before .before .before .before .before .before .columns-of .ensures) (c .before .before .before .before .before .before .before .before .constant-of .ensures) (c .before .before .before .before .before .before .smooth .ensures .0) (c .before .before .before .before .before .before .smooth .ensures .1) (c .before .before .before .before .across-of .ensures) (c .before .before .before .second-of .ensures) (c .before .smooth2 .ensures .0) (c .before .smooth2 .ensures .1))
 
 pub smoothed-spec : {M : Type 1} → statement M
 smoothed-spec =

@@ -7,6 +7,7 @@ use mathlib.Core.Bool.{Bool, true, false}
 use mathlib.Core.List.{List}
 use native.Mathlib.Nat as N
 use native.Mathlib.Omega.{arith}
+use borrow.Author.Needs.{needs}
 use borrow.Author.Tests.{lt-ltb}
 use lib.Dec.{lit<, leb→le, ltb}
 use lib.IntN.{ℤ, pos, natAbs, _+ℤ_, _*ℤ_, zero-*ℤ}
@@ -20,7 +21,7 @@ use Rattle.whole.proofs.Rows.{coefficient-times}
 use Rattle.whole.proofs.Solve.{ring, num, _⊕_, _⊗_, _≗_}
 use Rattle.whole.proofs.Sums.{sum-zero, sum-step, sum-cong, sum-ext, sum-*l, sum-bound}
 use Rattle.whole.proofs.Magnitude.{bound-+, bound-*}
-use Rattle.whole.proofs.Fits.{Holds, Adds, small-fits, gives}
+use Rattle.whole.proofs.Fits.{Holds, Adds, small-fits, fits-by, gives}
 use Rattle.certificate.specs.Problem.{squared}
 use Rattle.certificate.specs.Differences.{formAt, difference, coefficient, returned}
 use Rattle.certificate.proofs.Differences.{returned-is-gathered, gathered-size}
@@ -190,32 +191,60 @@ none-counted k e x = sym (ap (λ (y : ℤ). y *ℤ x) e ∙ zero-*ℤ x)
 pub none-added : (k : ℤ) → k ≡ pos 0 → (g : ℕ → ℤ) (parts : List ℤ) → Added (λ i. pos 2 *ℤ k *ℤ g i) parts parts
 none-added k e g parts = added-none parts (λ i. ap (λ (y : ℤ). pos 2 *ℤ y *ℤ g i) e ∙ zero-*ℤ (g i))
 
+-- ---- two directions, one after the other
+
+module _ {v : List ℤ} {n z stride width : ℕ} {k : ℤ} {parts : List ℤ} (S : Smooths v n z stride width k parts) where
+  -- what the first adds
+  added-small : (i : ℕ) → natAbs (pos 2 *ℤ k *ℤ returned (familyWith z stride n) (D S) i) ≤ 256000000000
+  added-small i = bound-* (pos 2 *ℤ k) (returned (familyWith z stride n) (D S) i) (bound-* (pos 2) k (N.le-refl 2) (S .constant)) (back-at-most S i)
+
+  -- with a second, and constants that come to 1,000 at most
+  module _ {z′ stride′ width′ : ℕ} {k′ : ℤ} {parts′ : List ℤ} (S′ : Smooths v n z′ stride′ width′ k′ parts′) (together : natAbs k + natAbs k′ ≤ 1000) where
+    two-small : natAbs (k *ℤ rough S +ℤ k′ *ℤ rough S′) ≤ 7424000000000000000
+    two-small =
+        N.le-trans
+        (bound-+ (k *ℤ rough S) (k′ *ℤ rough S′) (bound-* k (rough S) (N.le-refl (natAbs k)) (rough-at-most S))
+        (bound-* k′ (rough S′) (N.le-refl (natAbs k′)) (rough-at-most S′)))
+        (omega (arith, together))
+
+    module _ {r r′ : ℤ} (e : r ≡ k *ℤ rough S) (e′ : r′ ≡ k′ *ℤ rough S′) where
+      pub two-is : read r +ℤ read r′ ≡ k *ℤ rough S +ℤ k′ *ℤ rough S′
+      two-is = ap₂ _+ℤ_ (gives e (times-fits S)) (gives e′ (times-fits S′))
+
+      pub two-fit : SFits w64 (read r +ℤ read r′)
+      two-fit = fits-by two-is (small-fits (k *ℤ rough S +ℤ k′ *ℤ rough S′) two-small (lit< tt))
+
 -- ---- the two directions of a job
+
+-- orders down and across, columns and constants of a job with n cells, in their ranges
+pub record Shaped (n z a c : ℕ) (k q : ℤ) : Type 0 where
+  pub cells-some : 1 ≤ n
+  pub order-some : 1 ≤ z
+  pub order-few : z ≤ 4
+  pub order-less : z < n
+  pub across-some : 1 ≤ a
+  pub across-few : a ≤ 4
+  pub across-less : a < n
+  pub columns-some : 1 ≤ c
+  pub reach : z * c < n
+  pub constant : natAbs k ≤ 1000
+  pub second : natAbs q ≤ 1000
+  pub together : natAbs k + natAbs q ≤ 1000
+
+-- the numbers of one direction
+pub record Directed (n z stride width : ℕ) (k : ℤ) : Type 0 where
+  pub order-some : 1 ≤ z
+  pub order-few : z ≤ 4
+  pub stride-some : 1 ≤ stride
+  pub width-some : 1 ≤ width
+  pub reach : z * stride < n
+  pub constant : natAbs k ≤ 1000
 
 -- a row that is the whole table has no end to run over
 whole : (z c n : ℕ) (v : ℕ → ℤ) (f : ℕ) → f < n - z * c → differenceWithin n (familyWith z c n) v f ≡ difference (familyWith z c n) v f
 whole z c n v f h = rw (N.mod-eq-of-lt {n = f} {m = n} (omega arith), lt-ltb (f + z * c) n (omega arith))
 
 module _ {ws ps : List ℤ} (G : Given ws ps) where
-  values-inside : cellsOf ws ≤ length ps
-  values-inside = omega (arith, G .proposed .count)
-
-  down-smooths : {parts : List ℤ} → cellsOf ws ≤ length parts → ((i : ℕ) → i < cellsOf ws → natAbs (wordAt parts i) ≤ 10000000000000)
-      → Smooths ps (cellsOf ws) (orderOf ws) (columnsOf ws) (cellsOf ws) (jobOf ws .constant) parts
-  down-smooths room small = record {
-    order-some = G .allowed .order-some;
-    order-few = G .allowed .order-few;
-    stride-some = columns-some (G .laid) (G .allowed);
-    width-some = omega (arith, G .allowed .cells-some);
-    cells-few = G .allowed .cells-few;
-    reach = omega (arith, order-inside (G .laid) (G .allowed), columns-some (G .laid) (G .allowed));
-    inside = values-inside;
-    rates = G .proposed .value;
-    constant = G .allowed .constant .small;
-    room = room;
-    small = small;
-  }
-
   -- an order across is less than the count of cells
   across-less : acrossOf ws < cellsOf ws
   across-less = go (jobOf ws .grid) (G .allowed .shape)
@@ -224,18 +253,37 @@ module _ {ws ps : List ℤ} (G : Given ws ps) where
       go true g = omega (arith, g .across-less, columns-few (G .laid) (G .allowed))
       go false l = omega (arith, l .across-one, G .allowed .cells-some)
 
-  across-smooths : {parts : List ℤ} → cellsOf ws ≤ length parts → ((i : ℕ) → i < cellsOf ws → natAbs (wordAt parts i) ≤ 10000000000000)
-      → Smooths ps (cellsOf ws) (acrossOf ws) 1 (columnsOf ws) (secondOf ws) parts
-  across-smooths room small = record {
-    order-some = G .allowed .across-some;
-    order-few = G .allowed .across-few;
-    stride-some = omega arith;
-    width-some = columns-some (G .laid) (G .allowed);
-    cells-few = G .allowed .cells-few;
-    reach = omega (arith, across-less);
-    inside = values-inside;
-    rates = G .proposed .value;
-    constant = omega (arith, G .allowed .second .small);
+  shaped : Shaped (cellsOf ws) (orderOf ws) (acrossOf ws) (columnsOf ws) (jobOf ws .constant) (secondOf ws)
+  shaped =
+      let some = columns-some (G .laid) (G .allowed) in
+      let inside = order-inside (G .laid) (G .allowed) in
+      record {
+        cells-some = omega (arith, G .allowed .cells-some);
+        order-some = G .allowed .order-some;
+        order-few = G .allowed .order-few;
+        order-less = omega (arith, inside, N.mul-le-mul (N.le-refl (orderOf ws)) some);
+        across-some = G .allowed .across-some;
+        across-few = G .allowed .across-few;
+        across-less = across-less;
+        columns-some = some;
+        reach = omega (arith, inside, some);
+        constant = G .allowed .constant .small;
+        second = omega (arith, G .allowed .second .small);
+        together = G .allowed .constants;
+      }
+
+  directed : {n z stride width : ℕ} {k : ℤ} {parts : List ℤ} → n ≡ cellsOf ws → Directed n z stride width k → n ≤ length parts
+      → ((i : ℕ) → i < n → natAbs (wordAt parts i) ≤ 10000000000000) → Smooths ps n z stride width k parts
+  directed e R room small = record {
+    order-some = R .order-some;
+    order-few = R .order-few;
+    stride-some = R .stride-some;
+    width-some = R .width-some;
+    cells-few = omega (arith, e, G .allowed .cells-few);
+    reach = R .reach;
+    inside = omega (arith, e, G .proposed .count);
+    rates = λ i h. G .proposed .value i (omega (arith, e, h));
+    constant = R .constant;
     room = room;
     small = small;
   }
@@ -246,54 +294,36 @@ module _ {ws ps : List ℤ} (G : Given ws ps) where
   zeros-room : cellsOf ws ≤ length (replicate 120 (pos 0))
   zeros-room = rw (length-replicate 120 (pos 0)) (G .allowed .cells-few)
 
-  abbrev down : Smooths ps (cellsOf ws) (orderOf ws) (columnsOf ws) (cellsOf ws) (jobOf ws .constant) (replicate 120 (pos 0))
-  down = down-smooths zeros-room zeros-small
+  down : Smooths ps (cellsOf ws) (orderOf ws) (columnsOf ws) (cellsOf ws) (jobOf ws .constant) (replicate 120 (pos 0))
+  down = let H = shaped in directed refl (search needs) zeros-room zeros-small
 
-  abbrev across : Smooths ps (cellsOf ws) (acrossOf ws) 1 (columnsOf ws) (secondOf ws) (replicate 120 (pos 0))
-  across = across-smooths zeros-room zeros-small
+  across : Smooths ps (cellsOf ws) (acrossOf ws) 1 (columnsOf ws) (secondOf ws) (replicate 120 (pos 0))
+  across = let H = shaped in directed refl (search needs) zeros-room zeros-small
 
   -- what the rules take for what the code has
-  down-rough : rough down ≡ roughness (familyOf (jobOf ws)) (difference (familyOf (jobOf ws)) (wordAt ps))
-  down-rough = sum-cong (familyOf (jobOf ws) .count) (λ f h. ap squared (whole (orderOf ws) (columnsOf ws) (cellsOf ws) (wordAt ps) f h))
+  rough-is : jobOf ws .constant *ℤ rough down +ℤ secondOf ws *ℤ rough across ≡ roughOn ws ps
+  rough-is =
+      ap (λ (x : ℤ). jobOf ws .constant *ℤ x +ℤ secondOf ws *ℤ rough across)
+      (sum-cong (familyOf (jobOf ws) .count) (λ f h. ap squared (whole (orderOf ws) (columnsOf ws) (cellsOf ws) (wordAt ps) f h)))
 
-  down-back : (i : ℕ) → returned (familyOf (jobOf ws)) (D down) i ≡ returned (familyOf (jobOf ws)) (difference (familyOf (jobOf ws)) (wordAt ps)) i
-  down-back i =
-      sum-cong (familyOf (jobOf ws) .count)
-      (λ f h. ap (λ (x : ℤ). x *ℤ coefficient (familyOf (jobOf ws)) f i) (whole (orderOf ws) (columnsOf ws) (cellsOf ws) (wordAt ps) f h))
-
-  abbrev doubled : (a b : ℤ) → ℤ
-  doubled a b = pos 2 *ℤ jobOf ws .constant *ℤ a +ℤ pos 2 *ℤ secondOf ws *ℤ b
-
-  smooth-is : (i : ℕ) → doubled (returned (familyOf (jobOf ws)) (D down) i) (returned (familyAcross (jobOf ws)) (D across) i) ≡ smoothOn ws ps i
+  smooth-is : (i : ℕ)
+      → pos 2 *ℤ jobOf ws .constant *ℤ returned (familyOf (jobOf ws)) (D down) i +ℤ pos 2 *ℤ secondOf ws *ℤ returned (familyAcross (jobOf ws)) (D across) i
+      ≡ smoothOn ws ps i
   smooth-is i =
-      ap (λ (a : ℤ). doubled a (returned (familyAcross (jobOf ws)) (D across) i)) (down-back i)
+      ap (λ (x : ℤ). pos 2 *ℤ jobOf ws .constant *ℤ x +ℤ pos 2 *ℤ secondOf ws *ℤ returned (familyAcross (jobOf ws)) (D across) i)
+      (sum-cong (familyOf (jobOf ws) .count)
+      (λ f h. ap (λ (x : ℤ). x *ℤ coefficient (familyOf (jobOf ws)) f i) (whole (orderOf ws) (columnsOf ws) (cellsOf ws) (wordAt ps) f h)))
       ∙ ring 4 (λ k q a b. num 2 ⊗ k ⊗ a ⊕ num 2 ⊗ q ⊗ b ≗ num 2 ⊗ (k ⊗ a ⊕ q ⊗ b)) tt (jobOf ws .constant) (secondOf ws)
       (returned (familyOf (jobOf ws)) (difference (familyOf (jobOf ws)) (wordAt ps)) i) (returned (familyAcross (jobOf ws)) (acrossAt (jobOf ws) (wordAt ps)) i)
-
-  -- what one direction adds
-  added-small : (k b : ℤ) → natAbs k ≤ 1000 → natAbs b ≤ 128000000 → natAbs (pos 2 *ℤ k *ℤ b) ≤ 256000000000
-  added-small k b h l = bound-* (pos 2 *ℤ k) b (bound-* (pos 2) k (N.le-refl 2) h) l
-
-  down-added : (i : ℕ) → natAbs (pos 2 *ℤ jobOf ws .constant *ℤ returned (familyOf (jobOf ws)) (D down) i) ≤ 256000000000
-  down-added i = added-small (jobOf ws .constant) (returned (familyOf (jobOf ws)) (D down) i) (down .constant) (back-at-most down i)
 
   pub smooth-small : (i : ℕ) → natAbs (smoothOn ws ps i) ≤ 512000000000
   smooth-small i =
       subst (λ (x : ℤ). natAbs x ≤ 512000000000) (smooth-is i)
       (bound-+ (pos 2 *ℤ jobOf ws .constant *ℤ returned (familyOf (jobOf ws)) (D down) i) (pos 2 *ℤ secondOf ws *ℤ returned (familyAcross (jobOf ws)) (D across) i)
-      (down-added i) (added-small (secondOf ws) (returned (familyAcross (jobOf ws)) (D across) i) (across .constant) (back-at-most across i)))
+      (added-small down i) (added-small across i))
 
-  -- both constants together are at most 1,000
   rough-small : natAbs (roughOn ws ps) ≤ 7424000000000000000
-  rough-small =
-      let a = roughness (familyOf (jobOf ws)) (difference (familyOf (jobOf ws)) (wordAt ps)) in
-      let b = roughness (familyAcross (jobOf ws)) (acrossAt (jobOf ws) (wordAt ps)) in
-      let p : natAbs a ≤ 7424000000000000 = subst (λ (x : ℤ). natAbs x ≤ 7424000000000000) down-rough (rough-at-most down) in
-      N.le-trans
-      (bound-+ (jobOf ws .constant *ℤ a) (secondOf ws *ℤ b)
-      (bound-* (jobOf ws .constant) a (N.le-refl (natAbs (jobOf ws .constant))) p)
-      (bound-* (secondOf ws) b (N.le-refl (natAbs (secondOf ws))) (rough-at-most across)))
-      (omega (arith, G .allowed .constants))
+  rough-small = subst (λ (x : ℤ). natAbs x ≤ 7424000000000000000) rough-is (two-small down across (shaped .together))
 
   pub rough-fits : SFits w64 (roughOn ws ps)
   rough-fits = small-fits (roughOn ws ps) rough-small (lit< tt)
@@ -315,65 +345,49 @@ module _ {ws ps : List ℤ} {n : ℕ} {rough fit : ℤ} (L : Losing ws ps n roug
 
 -- ---- one direction after the other, in code
 
-module _ {ws ps : List ℤ} {n : ℕ} {parts : List ℤ} (G : Smoothing ws ps n parts) {z c : ℕ} {k : ℤ} (ez : z ≡ orderOf ws) (ec : c ≡ columnsOf ws) (ek : k ≡ jobOf ws .constant) where
-  room-is : cellsOf ws ≤ length parts
-  room-is = subst (λ (m : ℕ). m ≤ length parts) (G .n-is) (G .room)
+module _ {ws ps : List ℤ} {n : ℕ} {parts : List ℤ} (G : Smoothing ws ps n parts) where
+  pub first-call : {z stride width : ℕ} {k : ℤ} → Directed n z stride width k → Smooths ps n z stride width k parts
+  first-call R = directed (G .given) (G .n-is) R (G .room) (λ i h. N.le-trans (G .small i h) (leb→le 6400000000000 10000000000000 tt))
 
-  links-small : (i : ℕ) → i < cellsOf ws → natAbs (wordAt parts i) ≤ 6400000000000
-  links-small i h = G .small i (omega (arith, h, G .n-is))
+  pub second-call : {z stride width : ℕ} {k : ℤ} {parts₁ : List ℤ} (S : Smooths ps n z stride width k parts)
+      → Added (λ i. pos 2 *ℤ k *ℤ returned (familyWith z stride n) (differenceWithin width (familyWith z stride n) (wordAt ps)) i) parts parts₁
+      → {z′ stride′ width′ : ℕ} {k′ : ℤ} → Directed n z′ stride′ width′ k′ → Smooths ps n z′ stride′ width′ k′ parts₁
+  second-call {z} {stride} {width} {k} {parts₁} S A R =
+      directed (G .given) (G .n-is) R (omega (arith, G .room, A .long))
+      (λ i h.
+      subst (λ (x : ℤ). natAbs x ≤ 10000000000000) (sym (A .at i))
+      (N.le-trans (bound-+ (wordAt parts i) (pos 2 *ℤ k *ℤ returned (familyWith z stride n) (D S) i) (G .small i h) (added-small S i)) (leb→le 6656000000000 10000000000000 tt)))
 
-  k-read : read k ≡ jobOf ws .constant
-  k-read = gives ek (small-fits (jobOf ws .constant) (G .given .allowed .constant .small) (lit< tt))
+  -- with the numbers that the code reads
+  module _ {z a c : ℕ} {k q : ℤ} (ez : z ≡ orderOf ws) (ea : a ≡ acrossOf ws) (ec : c ≡ columnsOf ws) (ek : k ≡ jobOf ws .constant) (eq : q ≡ secondOf ws) where
+    k-read : read k ≡ jobOf ws .constant
+    k-read = gives ek (small-fits (jobOf ws .constant) (G .given .allowed .constant .small) (lit< tt))
 
-  pub first-call : Smooths ps n z c n (read k) parts
-  first-call =
-      subst (λ (m : ℕ). Smooths ps m z c m (read k) parts) (sym (G .n-is))
-      (rw (ez, ec, k-read) (down-smooths (G .given) room-is (λ i h. N.le-trans (links-small i h) (leb→le 6400000000000 10000000000000 tt))))
+    q-read : read q ≡ secondOf ws
+    q-read = gives eq (small-fits (secondOf ws) (G .given .allowed .second .small) (lit< tt))
 
-  abbrev firstRough : (z c n : ℕ) → ℤ → ℤ
-  firstRough z c n k = k *ℤ roughness (familyWith z c n) (differenceWithin n (familyWith z c n) (wordAt ps))
+    pub numbers-shaped : Shaped n z a c (read k) (read q)
+    numbers-shaped = rw (G .n-is, ez, ea, ec, k-read, q-read) (shaped (G .given))
 
-  abbrev firstBack : (z c n : ℕ) → ℤ → ℕ → ℤ
-  firstBack z c n k i = pos 2 *ℤ k *ℤ returned (familyWith z c n) (differenceWithin n (familyWith z c n) (wordAt ps)) i
+    abbrev roughBy : (z a c n : ℕ) (k q : ℤ) → ℤ
+    roughBy z a c n k q =
+        k *ℤ roughness (familyWith z c n) (differenceWithin n (familyWith z c n) (wordAt ps))
+        +ℤ q *ℤ roughness (familyWith a 1 n) (differenceWithin c (familyWith a 1 n) (wordAt ps))
 
-  module _ {r₁ : ℤ} {parts₁ : List ℤ} (e₁ : r₁ ≡ firstRough z c n (read k)) (A₁ : Added (firstBack z c n (read k)) parts parts₁) where
-    first-is : r₁ ≡ jobOf ws .constant *ℤ rough (down (G .given))
-    first-is = e₁ ∙ (λ i. firstRough (ez i) (ec i) (G .n-is i) (k-read i))
+    pub both-rough : roughBy z a c n (read k) (read q) ≡ roughOn ws ps
+    both-rough = (λ i. roughBy (ez i) (ea i) (ec i) (G .n-is i) (k-read i) (q-read i)) ∙ rough-is (G .given)
 
-    first-back : (i : ℕ) → firstBack z c n (read k) i ≡ pos 2 *ℤ jobOf ws .constant *ℤ returned (familyOf (jobOf ws)) (D (down (G .given))) i
-    first-back i = λ j. firstBack (ez j) (ec j) (G .n-is j) (k-read j) i
+    abbrev firstBack : (z c n : ℕ) → ℤ → ℕ → ℤ
+    firstBack z c n k i = pos 2 *ℤ k *ℤ returned (familyWith z c n) (differenceWithin n (familyWith z c n) (wordAt ps)) i
 
-    first-small : (i : ℕ) → i < cellsOf ws → natAbs (wordAt parts₁ i) ≤ 10000000000000
-    first-small i h =
-        subst (λ (x : ℤ). natAbs x ≤ 10000000000000) (sym (A₁ .at i ∙ ap (λ (x : ℤ). wordAt parts i +ℤ x) (first-back i)))
-        (N.le-trans
-        (bound-+ (wordAt parts i) (pos 2 *ℤ jobOf ws .constant *ℤ returned (familyOf (jobOf ws)) (D (down (G .given))) i) (links-small i h) (down-added (G .given) i))
-        (leb→le 6656000000000 10000000000000 tt))
+    abbrev secondBack : (a c n : ℕ) → ℤ → ℕ → ℤ
+    secondBack a c n q i = pos 2 *ℤ q *ℤ returned (familyWith a 1 n) (differenceWithin c (familyWith a 1 n) (wordAt ps)) i
 
-    module _ {a : ℕ} {q : ℤ} (ea : a ≡ acrossOf ws) (eq : q ≡ secondOf ws) where
-      q-read : read q ≡ secondOf ws
-      q-read = gives eq (small-fits (secondOf ws) (G .given .allowed .second .small) (lit< tt))
-
-      pub second-call : Smooths ps n a 1 c (read q) parts₁
-      second-call =
-          subst (λ (m : ℕ). Smooths ps m a 1 c (read q) parts₁) (sym (G .n-is))
-          (rw (ea, ec, q-read) (across-smooths (G .given) (omega (arith, A₁ .long, room-is)) first-small))
-
-      abbrev secondRough : (a c n : ℕ) → ℤ → ℤ
-      secondRough a c n q = q *ℤ roughness (familyWith a 1 n) (differenceWithin c (familyWith a 1 n) (wordAt ps))
-
-      abbrev secondBack : (a c n : ℕ) → ℤ → ℕ → ℤ
-      secondBack a c n q i = pos 2 *ℤ q *ℤ returned (familyWith a 1 n) (differenceWithin c (familyWith a 1 n) (wordAt ps)) i
-
-      module _ {r₂ : ℤ} {parts₂ : List ℤ} (e₂ : r₂ ≡ secondRough a c n (read q)) (A₂ : Added (secondBack a c n (read q)) parts₁ parts₂) where
-        second-is : r₂ ≡ secondOf ws *ℤ rough (across (G .given))
-        second-is = e₂ ∙ (λ i. secondRough (ea i) (ec i) (G .n-is i) (q-read i))
-
-        pub both-is : read r₁ +ℤ read r₂ ≡ roughOn ws ps
-        both-is =
-            ap₂ _+ℤ_ (gives first-is (times-fits (down (G .given))) ∙ ap (λ (x : ℤ). jobOf ws .constant *ℤ x) (down-rough (G .given)))
-            (gives second-is (times-fits (across (G .given))))
-
-        pub both-added : Added (smoothOn ws ps) parts parts₂
-        both-added =
-            added-by (λ i. (λ j. first-back i j +ℤ secondBack (ea j) (ec j) (G .n-is j) (q-read j) i) ∙ smooth-is (G .given) i) (added-then A₁ A₂)
+    pub both-added : {parts₁ parts₂ : List ℤ} → Added (firstBack z c n (read k)) parts parts₁ → Added (secondBack a c n (read q)) parts₁ parts₂
+        → Added (smoothOn ws ps) parts parts₂
+    both-added A B =
+        added-by
+        (λ i.
+        (λ j. firstBack (ez j) (ec j) (G .n-is j) (k-read j) i +ℤ secondBack (ea j) (ec j) (G .n-is j) (q-read j) i)
+        ∙ smooth-is (G .given) i)
+        (added-then A B)

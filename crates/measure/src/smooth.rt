@@ -85,11 +85,11 @@ pub fn smoothed(words: &[i64], values: &[i64], n: usize, parts: &mut [i64]) -> i
     ensures { λ r. ⌜ (r ≡ roughOn (now (words .entry)) (now (values .entry))) × Added (smoothOn (now (words .entry)) (now (values .entry))) (now (parts .entry)) (now (parts .exit)) ⌝ }
 {
     let z = words::order_of(words);
+    let across = words::across_of(words);
     let columns = words::columns_of(words);
     let k = words::constant_of(words);
-    let down = smooth(values, n, z, columns, n, k, parts);
-    let across = words::across_of(words);
     let second = words::second_of(words);
+    let down = smooth(values, n, z, columns, n, k, parts);
     let along = smooth(values, n, across, 1, columns, second, parts);
     down + along
 }

@@ -1,6 +1,6 @@
 -- Facts about differences, for any row, order and stride. `difference-is-form` makes a difference a form of `Problem`. What a cell gets back from all
--- differences is `returned` in the theorem and `gathered` in code; where start f is f, `returned-is-gathered F p i (λ f l. refl)` says that they
--- are equal.
+-- differences is `returned`; where start f is f, `returned-is-gathered F p i (λ f l. refl)` says that it is `gathered`, one number for each coefficient,
+-- and `gathered-size` how large that can be.
 use mathlib.Core.Path.{_≡_, refl, sym, ap, _∙_}
 use mathlib.Core.Bool.{Bool, true, false, cond}
 use Prim.Native.Nat.{ℕ, suc, _+_, _-_, _*_, _≤_, _<_, zero-le, suc-le-suc}
@@ -8,9 +8,9 @@ use native.Mathlib.Nat as N
 use native.Mathlib.Omega.{arith}
 use borrow.Author.Tests.{leb-true, leb-false, ltb-true, ltb-false}
 use lib.Dec.{leb, ltb}
-use lib.IntN.{ℤ, pos, natAbs, _+ℤ_, _*ℤ_, *ℤ-comm, zero-*ℤ, *ℤ-zero, +ℤ-idr}
+use lib.IntN.{ℤ, pos, natAbs, _+ℤ_, _*ℤ_, *ℤ-comm, zero-*ℤ, +ℤ-idr}
 use Rattle.whole.specs.Sum.{sum, sumℕ, only}
-use Rattle.whole.proofs.Ring.{*ℤ-+ℤ, *ℤ-lcomm}
+use Rattle.whole.proofs.Ring.{*ℤ-+ℤ}
 use Rattle.whole.proofs.Sums.{sum-cong, sum-ext, sum-vanish, sum-+, sum-*l, sum-*r, sum-swap, sum-adjoint}
 use Rattle.whole.proofs.Parts.{sum-one}
 use Rattle.whole.proofs.Rows.{only-same, only-other, only-times, coefficient-at, coefficient-off, row-value, sum-size}
@@ -100,40 +100,6 @@ module _ (F : Family) (n : ℕ) (within : Inside F n) (κ v : ℕ → ℤ) where
   pub smooth-loss : sum (F .count) (λ f. κ f *ℤ squared (sum n (λ i. coefficient F f i *ℤ v i)))
       ≡ sum (F .count) (λ f. κ f *ℤ squared (difference F v f))
   smooth-loss = sum-cong (F .count) (λ f l. ap (λ (x : ℤ). κ f *ℤ squared x) (difference-is-form F n f v (within f l)))
-
-  -- the smoothness part of the residual
-  pub smooth-residual : (i : ℕ) → Consecutive F
-      → sum (F .count) (λ f. pos 2 *ℤ κ f *ℤ sum n (λ i. coefficient F f i *ℤ v i) *ℤ coefficient F f i)
-      ≡ gathered F (λ f. pos 2 *ℤ κ f *ℤ difference F v f) i
-  smooth-residual i c =
-      sum-cong (F .count)
-      (λ f l. ap (λ (x : ℤ). pos 2 *ℤ κ f *ℤ x *ℤ coefficient F f i) (difference-is-form F n f v (within f l)))
-      ∙ returned-is-gathered F (λ f. pos 2 *ℤ κ f *ℤ difference F v f) i c
-
--- equal numbers are gathered to the same
-pub gathered-cong : (F : Family) (p q : ℕ → ℤ) (i : ℕ) → ((f : ℕ) → f < F .count → p f ≡ q f) → gathered F p i ≡ gathered F q i
-gathered-cong F p q i h =
-    sum-ext (suc (F .order))
-    (λ m. ap (λ (z : ℤ). F .row m *ℤ z) (go (leb (m * F .stride) i) (ltb (i - m * F .stride) (F .count)) (i - m * F .stride) refl))
-  where
-    go : (a b : Bool) (f : ℕ) → ltb f (F .count) ≡ b → cond a (cond b (p f) (pos 0)) (pos 0) ≡ cond a (cond b (q f) (pos 0)) (pos 0)
-    go true true f e = h f (ltb-true f (F .count) e)
-    go true false f e = refl
-    go false b f e = refl
-
--- a factor of all numbers is a factor of what is gathered
-pub gathered-times : (F : Family) (k : ℤ) (p : ℕ → ℤ) (i : ℕ) → gathered F (λ f. k *ℤ p f) i ≡ k *ℤ gathered F p i
-gathered-times F k p i =
-    sum-ext (suc (F .order))
-    (λ m.
-    ap (λ (z : ℤ). F .row m *ℤ z) (taken (leb (m * F .stride) i) (ltb (i - m * F .stride) (F .count)) (p (i - m * F .stride)))
-    ∙ *ℤ-lcomm (F .row m) k (earlier p (F .count) i (m * F .stride)))
-    ∙ sum-*l (suc (F .order)) k (λ m. F .row m *ℤ earlier p (F .count) i (m * F .stride))
-  where
-    taken : (a b : Bool) (z : ℤ) → cond a (cond b (k *ℤ z) (pos 0)) (pos 0) ≡ k *ℤ cond a (cond b z (pos 0)) (pos 0)
-    taken true true z = refl
-    taken true false z = sym (*ℤ-zero k)
-    taken false b z = sym (*ℤ-zero k)
 
 -- ---- size
 

@@ -1,7 +1,7 @@
 -- The differences of the house proposal's A are those of the loss: down the columns the same family, along the rows one that numbers only those which
 -- lie in a row, where the loss counts 0 for the others.
 use Prim.Native.Nat.{ℕ, zero, suc, _+_, _-_, _*_, _/_, _%_, _≤_, _<_}
-use mathlib.Core.Path.{_≡_, refl, sym, ap, ap₂, _∙_}
+use mathlib.Core.Path.{_≡_, sym, ap, ap₂, _∙_}
 use mathlib.Core.Bool.{Bool, true, false}
 use native.Mathlib.Nat as N
 use native.Mathlib.Omega.{arith}
@@ -16,8 +16,8 @@ use Rattle.rows.specs.Rows.{rowOf}
 use Rattle.certificate.specs.Problem.{squared}
 use Rattle.certificate.specs.Differences.{formAt}
 use Rattle.jobs.specs.Job.{Job}
-use Rattle.jobs.specs.Allowed.{Allowed, ShapeAllowed}
-use Rattle.measure.specs.Loss.{familyWith, familyOf}
+use Rattle.jobs.specs.Allowed.{ShapeAllowed}
+use Rattle.measure.specs.Loss.{familyWith}
 use Rattle.claims.specs.HousePromises.{HouseDown, HouseAcross}
 
 -- a sum over r rows of w

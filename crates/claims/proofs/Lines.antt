@@ -1,16 +1,14 @@
 -- A job that is no grid: its differences stand 1 apart, and those across count nothing.
 use Prim.Native.Nat.{ℕ, _-_, _*_}
-use mathlib.Core.Path.{_≡_, refl, sym, ap, ap₂, subst, _∙_}
-use mathlib.Core.Bool.{Bool, true, false}
+use mathlib.Core.Path.{_≡_, ap, ap₂, subst, _∙_}
 use native.Mathlib.Nat as N
-use lib.IntN.{ℤ, pos, _+ℤ_, _*ℤ_, zero-*ℤ, +ℤ-idr}
+use lib.IntN.{ℤ, _+ℤ_, _*ℤ_, zero-*ℤ, +ℤ-idr}
 use Rattle.whole.specs.Sum.{sum}
 use Rattle.rows.specs.Rows.{rowOf}
 use Rattle.certificate.specs.Problem.{squared}
-use Rattle.certificate.specs.Differences.{difference, formAt}
-use Rattle.jobs.specs.Job.{Job}
-use Rattle.jobs.specs.Allowed.{LineAllowed, ShapeAllowed, Allowed}
-use Rattle.measure.specs.Loss.{familyOf, familyAcross, acrossAt, fitOf, roughness, lossOf}
+use Rattle.certificate.specs.Differences.{formAt}
+use Rattle.jobs.specs.Allowed.{LineAllowed, ShapeAllowed}
+use Rattle.measure.specs.Loss.{familyAcross, acrossAt, fitOf, roughness, lossOf}
 use Rattle.claims.specs.Promises.{LineLoss}
 
 pub line-loss : LineLoss

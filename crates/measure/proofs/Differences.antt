@@ -11,11 +11,11 @@ use lib.IntN.{ℤ, pos, negsuc, natAbs, _+ℤ_, _-ℤ_, _*ℤ_}
 use lib.ListN.{length}
 use mir.Syntax.{w64}
 use mir.Val.{SFits}
-use Rattle.whole.specs.Sum.{sumℕ}
+use Rattle.whole.specs.Sum.{sumℕ, only, coefficientOf}
 use Rattle.whole.proofs.Sums.{sum-ext}
 use Rattle.whole.proofs.Magnitude.{bound-*}
 use Rattle.whole.proofs.Fits.{small-fits, gives, Adds, partial-small}
-use Rattle.certificate.specs.Differences.{along, formAt, earlier, gathered}
+use Rattle.certificate.specs.Differences.{along, formAt}
 use Rattle.certificate.proofs.Differences.{shift-unseen, difference-size}
 use Rattle.jobs.specs.Words.{wordAt}
 use Rattle.jobs.specs.Allowed.{Upto}
@@ -77,8 +77,8 @@ module _ {z : ℕ} {row : List ℤ} (R : IsRow z row) where
   pub row-form : (stride i : ℕ) (x : ℕ → ℤ) → formAt (wordAt row) z stride i x ≡ formAt (rowOf z) z stride i x
   row-form stride i x = sum-ext (suc z) (λ m. ap (λ (c : ℤ). c *ℤ x (i + m * stride)) (R .at m))
 
-  pub row-gathered : (stride count : ℕ) (p : ℕ → ℤ) (i : ℕ) → gathered (along (wordAt row) z stride count) p i ≡ gathered (along (rowOf z) z stride count) p i
-  row-gathered stride count p i = sum-ext (suc z) (λ m. ap (λ (c : ℤ). c *ℤ earlier p count i (m * stride)) (R .at m))
+  pub row-coefficient : (stride f i : ℕ) → coefficientOf (suc z) (λ m. f + m * stride) (wordAt row) i ≡ coefficientOf (suc z) (λ m. f + m * stride) (rowOf z) i
+  row-coefficient stride f i = sum-ext (suc z) (λ m. ap (λ (c : ℤ). only (f + m * stride) c i) (R .at m))
 
 module _ (z stride i : ℕ) (v : ℕ → ℤ) (some : 1 ≤ z) (few : z ≤ 4) (rates : (m : ℕ) → m ≤ z → Upto 1000000 (v (i + m * stride))) where
   by-rows : natAbs (formAt (rowOf z) z stride i v) ≤ sumℕ (suc z) (λ m. natAbs (rowOf z m)) * 500000

@@ -7,7 +7,6 @@ pub mod Totals
 pub mod Lowest
 pub mod Scattered
 pub mod Walks
-pub mod Gathered
 pub mod Directions
 pub mod Residuals
 pub mod Totalled

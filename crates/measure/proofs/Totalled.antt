@@ -1,6 +1,6 @@
 -- The loop over the cells: each cell term is within its range, and the running total holds those that were passed.
-use Prim.Native.Nat.{ℕ, _+_, _-_, _*_, _≤_, _<_}
-use mathlib.Core.Path.{_≡_, refl, sym, ap, ap₂, subst, _∙_}
+use Prim.Native.Nat.{ℕ, _+_, _≤_, _<_}
+use mathlib.Core.Path.{_≡_, refl, sym, ap, subst, _∙_}
 use mathlib.Core.Bool.{Bool, true, false, _&&_}
 use mathlib.Core.List.{List}
 use native.Mathlib.Nat as N
@@ -11,6 +11,8 @@ use lib.ListN.{length}
 use lib.Signed.{_≤ℤ_, leZ, leZ-yes}
 use mir.Syntax.{w64}
 use mir.Val.{toZ, ofZ}
+use Rattle.whole.proofs.Magnitude.{bound-+}
+use Rattle.whole.proofs.Solve.{ring, _⊕_, _≗_}
 use Rattle.whole.proofs.Fits.{Holds, small-fits, gives}
 use Rattle.numbers.proofs.Clash.{clash}
 use Rattle.certificate.specs.Terms.{cellTerm}
@@ -23,8 +25,9 @@ use Rattle.measure.proofs.Places.{read, rate-read, weight-read}
 use Rattle.measure.proofs.Terms.{cell-small, true-T}
 use Rattle.measure.proofs.Totals.{Runs, settles-call, settles-next}
 use Rattle.measure.proofs.Walks.{parts-small}
-use Rattle.measure.specs.OnWords.{linkPartOn, residualOn, residualWith, cellTermWith, cellTermOn}
-use Rattle.measure.proofs.Residuals.{slopes-small, slopes, residual-is as plain-is}
+use Rattle.measure.specs.OnWords.{smoothOn, linkPartOn, residualOn, residualWith, cellTermWith, cellTermOn}
+use Rattle.measure.proofs.Directions.{smooth-small}
+use Rattle.measure.proofs.Residuals.{slopes-small, slopes}
 
 -- ---- the cell term
 
@@ -80,36 +83,44 @@ box-both : (a b : Bool) → (a && b) ≡ true → (a ≡ true) × (b ≡ true)
 box-both true b e = (refl, e)
 box-both false b e = clash (cc)
 
-pub totalling-by : {ws ps : List ℤ} {n : ℕ} {sl parts : List ℤ} {start start′ : ℤ} → start ≡ start′ → Totalling ws ps n sl parts start
-    → Totalling ws ps n sl parts start′
-totalling-by {ws} {ps} {n} {sl} {parts} e H = subst (λ (x : ℤ). Totalling ws ps n sl parts x) e H
+pub totalling-by : {ws ps : List ℤ} {n : ℕ} {parts : List ℤ} {start start′ : ℤ} → start ≡ start′ → Totalling ws ps n parts start → Totalling ws ps n parts start′
+totalling-by {ws} {ps} {n} {parts} e H = subst (λ (x : ℤ). Totalling ws ps n parts x) e H
 
-module _ {ws ps : List ℤ} {n : ℕ} {sl parts : List ℤ} {start : ℤ} (H : Totalling ws ps n sl parts start) where
-  linked-read : (i : ℕ) → i < n → read (wordAt parts i) ≡ linkPartOn ws ps i
-  linked-read i h =
-      gives (H .parts-are i h)
-      (small-fits (linkPartOn ws ps i) (parts-small (H .measured .given) (linksOf ws) i (N.le-refl (linksOf ws))) (lit< tt))
+module _ {ws ps : List ℤ} {n : ℕ} {parts : List ℤ} {start : ℤ} (H : Totalling ws ps n parts start) where
+  inside : {i : ℕ} → i < n → i < cellsOf ws
+  inside {i} h = subst (λ (x : ℕ). i < x) (H .n-is) h
 
-  plain-at : (i : ℕ) → i < n → ResidualAt ws ps n sl i (linkPartOn ws ps i)
-  plain-at i h = record { measured = H .measured; inside = h; part-small = parts-small (H .measured .given) (linksOf ws) i (N.le-refl (linksOf ws)) }
+  -- what is added to the residual of the cell i
+  abbrev added : ℕ → ℤ
+  added i = linkPartOn ws ps i +ℤ smoothOn ws ps i
 
-  pub total-residual : (i : ℕ) → i < n → ResidualAt ws ps n sl i (read (wordAt parts i))
-  total-residual i h = subst (λ (x : ℤ). ResidualAt ws ps n sl i x) (sym (linked-read i h)) (plain-at i h)
+  added-most : (i : ℕ) → natAbs (added i) ≤ 6912000000000
+  added-most i = bound-+ (linkPartOn ws ps i) (smoothOn ws ps i) (parts-small (H .given) (linksOf ws) i (N.le-refl (linksOf ws))) (smooth-small (H .given) i)
 
-  residual-is : (i : ℕ) → i < n → {r : ℤ}
-      → r ≡ residualWith ws ps i (read (wordAt parts i))
-      → r ≡ residualOn ws ps i
+  part-read : (i : ℕ) → i < n → read (wordAt parts i) ≡ added i
+  part-read i h = gives (H .parts-are i h) (small-fits (added i) (added-most i) (lit< tt))
+
+  plain-at : (i : ℕ) → i < n → ResidualAt ws ps i (added i)
+  plain-at i h = record { given = H .given; inside = inside h; part-small = added-most i }
+
+  pub total-residual : (i : ℕ) → i < n → ResidualAt ws ps i (read (wordAt parts i))
+  total-residual i h = subst (λ (x : ℤ). ResidualAt ws ps i x) (sym (part-read i h)) (plain-at i h)
+
+  plain-is : (i : ℕ) → residualWith ws ps i (added i) ≡ residualOn ws ps i
   unfolding residualOf
-  residual-is i h q = q ∙ ap (λ (x : ℤ). residualWith ws ps i x) (linked-read i h)
+  plain-is i =
+      ring 3 (λ a l s. a ⊕ (l ⊕ s) ≗ a ⊕ s ⊕ l) tt (pos 2 *ℤ jobOf ws .weight i *ℤ (wordAt ps i -ℤ jobOf ws .crude i)) (linkPartOn ws ps i) (smoothOn ws ps i)
+
+  residual-is : (i : ℕ) → i < n → {r : ℤ} → r ≡ residualWith ws ps i (read (wordAt parts i)) → r ≡ residualOn ws ps i
+  residual-is i h q = q ∙ ap (λ (x : ℤ). residualWith ws ps i x) (part-read i h) ∙ plain-is i
 
   residual-small : (i : ℕ) → i < n → natAbs (residualOn ws ps i) ≤ 7000000000000
-  unfolding residualOf
   residual-small i h =
-      subst (λ (x : ℤ). natAbs x ≤ 7000000000000) (plain-is (plain-at i h) {s = wordAt sl i} refl refl refl)
-      (N.le-trans (slopes-small (slopes (plain-at i h) {s = wordAt sl i} refl refl refl)) (leb→le 6916000000000 7000000000000 tt))
+      subst (λ (x : ℤ). natAbs x ≤ 7000000000000) (plain-is i)
+      (N.le-trans (slopes-small (slopes (plain-at i h) refl refl)) (leb→le 6916000000000 7000000000000 tt))
 
   cell-at : (i : ℕ) → i < n → CellAt ws ps i (residualOn ws ps i)
-  cell-at i h = record { given = H .measured .given; inside = subst (λ (x : ℕ). i < x) (H .measured .n-is) h; r-small = residual-small i h }
+  cell-at i h = record { given = H .given; inside = inside h; r-small = residual-small i h }
 
   box-of : (i : ℕ) → i < n → (jobOf ws .floor i ≤ℤ wordAt ps i) × (wordAt ps i ≤ℤ jobOf ws .ceiling i)
   box-of i h =
@@ -118,7 +129,7 @@ module _ {ws ps : List ℤ} {n : ℕ} {sl parts : List ℤ} {start : ℤ} (H : T
 
   pub cells-run : Runs (jobOf ws .tolerance) start (cellTermOn ws ps) n
   cells-run = record {
-    tolerance-in = H .measured .given .allowed .tolerance;
+    tolerance-in = H .given .allowed .tolerance;
     start-least = H .start-least;
     start-small = H .start-small;
     least = λ i h.
@@ -151,4 +162,4 @@ module _ {ws ps : List ℤ} {n : ℕ} {sl parts : List ℤ} {start : ℤ} (H : T
 
   pub total-ends : {i total : ℕ} → i ≡ n → Holds total (runOf (jobOf ws .tolerance) start (cellTermOn ws ps) i)
       → toZ w64 total ≡ runOf (jobOf ws .tolerance) start (cellTermOn ws ps) (cellsOf ws)
-  total-ends e T = T .is ∙ ap (runOf (jobOf ws .tolerance) start (cellTermOn ws ps)) (e ∙ H .measured .n-is)
+  total-ends e T = T .is ∙ ap (runOf (jobOf ws .tolerance) start (cellTermOn ws ps)) (e ∙ H .n-is)

@@ -1,5 +1,5 @@
 -- What the check hands from one step to the next: the boxes, the walk over the links, and the gap that the running total decides.
-use Prim.Native.Nat.{ℕ, _+_, _-_, _*_, _≤_, _<_}
+use Prim.Native.Nat.{ℕ, _≤_, _<_}
 use mathlib.Core.Path.{_≡_, refl, sym, ap, ap₂, subst, subst₂, _∙_}
 use mathlib.Core.Bool.{Bool, true, false, _&&_}
 use mathlib.Core.List.{List}
@@ -24,16 +24,16 @@ use Rattle.measure.specs.declared.links.Walked.{Walked}
 use Rattle.measure.specs.declared.links.Walked.the-variants.{Broken, Held}
 use Rattle.measure.specs.Gap.{gapOf}
 use Rattle.measure.specs.Check.{lowestFailing, verdictOf}
-use Rattle.measure.specs.Given.{Given, Smoothing, Measured, Losing, Walking, Totalling, Boxes, Judging}
-use Rattle.measure.specs.Running.{Filled, Added, runOf, walkOf, onWalked}
+use Rattle.measure.specs.Given.{Given, Smoothing, Losing, Walking, Totalling, Boxes, Judging}
+use Rattle.measure.specs.Running.{Added, runOf, walkOf, onWalked}
 use Rattle.measure.proofs.Places.{read, rate-read, tolerance-fits}
 use Rattle.measure.proofs.Directions.{rough-fits, loss-in-64}
 use Rattle.measure.proofs.Terms.{true-T}
 use Rattle.measure.proofs.Totals.{Runs, run-least, run-small, run-fits, Tells, tells-start, run-tells, not-le-lt, lt-not-le}
 use Rattle.measure.proofs.Lowest.{Passed, lowest-all, passed-all}
-use Rattle.measure.proofs.Walks.{links-run}
+use Rattle.measure.proofs.Walks.{links-run, parts-small}
 use Rattle.measure.proofs.Totalled.{cells-run}
-use Rattle.measure.specs.OnWords.{inBoxOn, holdsOn, lossOn, roughOn, slopeOn, cellTermOn, linkTermOn, gapOn, judgedOn, verdictOn, heldOn, partsOn, walkOn}
+use Rattle.measure.specs.OnWords.{inBoxOn, holdsOn, lossOn, roughOn, smoothOn, cellTermOn, linkTermOn, gapOn, judgedOn, verdictOn, heldOn, partsOn, walkOn}
 
 -- ---- a cell's box, in code
 
@@ -146,28 +146,33 @@ module _ {ws ps : List ℤ} {n : ℕ} (B : Boxes ws ps n) where
 -- ---- 9, or the loss and the gap
 
 module _ {ws ps : List ℤ} {n : ℕ} {total : ℤ} {parts : List ℤ} (J : Judging ws ps n total parts) where
-  pub judge-smoothing : Smoothing ws ps n (replicate 120 (pos 0))
-  judge-smoothing = record { given = J .table .given; n-is = J .table .n-is; room = room-is (J .table); zeros = zeros-at 120 }
+  pub judge-smoothing : Smoothing ws ps n parts
+  judge-smoothing = record {
+    given = J .table .given;
+    n-is = J .table .n-is;
+    room = J .parts-room;
+    small = λ i h.
+        subst (λ (x : ℤ). natAbs x ≤ 6400000000000) (sym (J .parts-are i h))
+        (parts-small (J .table .given) (linksOf ws) i (N.le-refl (linksOf ws)));
+  }
 
   module _ {rough : ℤ} (er : rough ≡ roughOn ws ps) where
     pub judge-losing : Losing ws ps n (read rough)
     judge-losing = record { given = J .table .given; n-is = J .table .n-is; rough-is = gives er (rough-fits (J .table .given)) }
 
-  module _ {sl : List ℤ} (F : Filled n (slopeOn ws ps) (replicate 120 (pos 0)) sl) where
-    judge-measured : Measured ws ps n sl
-    judge-measured = record { given = J .table .given; n-is = J .table .n-is; room = omega (arith, room-is (J .table), F .long); at = F .at }
-
+  module _ {parts′ : List ℤ} (A : Added (smoothOn ws ps) parts parts′) where
     linked : Runs (jobOf ws .tolerance) (pos 0) (linkTermOn ws ps) (linksOf ws)
     linked = links-run (J .table .given) (linksOf ws) (N.le-refl (linksOf ws)) (J .kept)
 
     total-small : natAbs total ≤ 8000000000000000000
     total-small = subst (λ (x : ℤ). natAbs x ≤ 8000000000000000000) (sym (J .total-is)) (run-small linked (linksOf ws) (N.le-refl (linksOf ws)))
 
-    plain : Totalling ws ps n sl parts total
+    plain : Totalling ws ps n parts′ total
     plain = record {
-      measured = judge-measured;
-      room = J .parts-room;
-      parts-are = J .parts-are;
+      given = J .table .given;
+      n-is = J .table .n-is;
+      room = omega (arith, J .parts-room, A .long);
+      parts-are = λ i h. A .at i ∙ ap (λ (x : ℤ). x +ℤ smoothOn ws ps i) (J .parts-are i h);
       boxes = J .table .boxes;
       start-least = subst (λ (x : ℤ). pos 0 ≤ℤ x) (sym (J .total-is)) (run-least linked (linksOf ws) (N.le-refl (linksOf ws)));
       start-small = total-small;
@@ -176,8 +181,8 @@ module _ {ws ps : List ℤ} {n : ℕ} {total : ℤ} {parts : List ℤ} (J : Judg
     total-read : read total ≡ total
     total-read = gives refl (small-fits total total-small (lit< tt))
 
-    pub judge-totalling : Totalling ws ps n sl parts (read total)
-    judge-totalling = subst (λ (x : ℤ). Totalling ws ps n sl parts x) (sym total-read) plain
+    pub judge-totalling : Totalling ws ps n parts′ (read total)
+    judge-totalling = subst (λ (x : ℤ). Totalling ws ps n parts′ x) (sym total-read) plain
 
     -- with the gap's total and the tolerance that the code has
     module _ {g t : ℤ} (eg : g ≡ runOf (jobOf ws .tolerance) (read total) (cellTermOn ws ps) (cellsOf ws))

@@ -1,16 +1,16 @@
 -- What the functions of this crate count on: the numbers of a job and of a proposal that were read lie in the ranges of document 01, "Numbers
 -- allowed". Each record holds what one function asks for.
-use Prim.Native.Nat.{ℕ, _+_, _-_, _*_, _≤_, _<_}
+use Prim.Native.Nat.{ℕ, _+_, _*_, _≤_, _<_}
 use mathlib.Core.Path.{_≡_}
 use mathlib.Core.Bool.{true}
 use mathlib.Core.List.{List}
-use lib.IntN.{ℤ, pos, natAbs}
+use lib.IntN.{ℤ, pos, natAbs, _+ℤ_}
 use lib.ListN.{length}
 use lib.Signed.{_≤ℤ_}
 use Rattle.jobs.specs.Words.{wordAt, countAt, cellsOf, linksOf, jobOf}
 use Rattle.jobs.specs.Allowed.{Upto, Allowed, Laid, Proposed}
 use Rattle.measure.specs.Running.{runOf}
-use Rattle.measure.specs.OnWords.{inBoxOn, holdsOn, roughOn, slopeOn, linkPartOn, linkTermOn}
+use Rattle.measure.specs.OnWords.{inBoxOn, holdsOn, roughOn, smoothOn, linkPartOn, linkTermOn}
 
 -- The words of a job, and those of a proposal for it.
 pub record Given (ws ps : List ℤ) : Type 0 where
@@ -29,24 +29,15 @@ pub record Differs (row : List ℤ) (z stride i : ℕ) (v : List ℤ) : Type 0 w
   pub inside : i + z * stride < length v
   pub rates : (m : ℕ) → m ≤ z → Upto 1000000 (wordAt v (i + m * stride))
 
--- A difference of rates, and a list that starts with so many.
-pub record Difference (d : ℤ) : Type 0 where
-  pub small : natAbs d ≤ 8000000
-
-pub record Differences (count : ℕ) (d : List ℤ) : Type 0 where
-  pub few : count ≤ 119
-  pub inside : count ≤ length d
-  pub each : (i : ℕ) → i < count → Difference (wordAt d i)
-
--- A row and the differences from which a cell gets back.
-pub record Gathers (row : List ℤ) (z stride count : ℕ) (d : List ℤ) : Type 0 where
+-- A difference whose coefficients, times y, are added to the parts of the cells that it uses.
+pub record GivesBack (row : List ℤ) (z stride i : ℕ) (y : ℤ) (parts : List ℤ) : Type 0 where
   pub coefficients : Coefficients z row
-  pub near : stride ≤ 120
-  pub differences : Differences count d
+  pub y-small : natAbs y ≤ 20000000000
+  pub inside : i + z * stride < length parts
+  pub small : (m : ℕ) → m ≤ z → natAbs (wordAt parts (i + m * stride)) ≤ 100000000000000000
 
--- One direction of smoothing over n rates: differences of order z with a stride, along rows of `width` cells, with the constant k. The list s has what the
--- cells got back so far.
-pub record Smooths (v : List ℤ) (n z stride width : ℕ) (k : ℤ) (s : List ℤ) : Type 0 where
+-- One direction of smoothing over n rates: differences of order z with a stride, in rows of `width` cells, with the constant k; and the parts of the cells.
+pub record Smooths (v : List ℤ) (n z stride width : ℕ) (k : ℤ) (parts : List ℤ) : Type 0 where
   pub order-some : 1 ≤ z
   pub order-few : z ≤ 4
   pub stride-some : 1 ≤ stride
@@ -56,31 +47,17 @@ pub record Smooths (v : List ℤ) (n z stride width : ℕ) (k : ℤ) (s : List �
   pub inside : n ≤ length v
   pub rates : (i : ℕ) → i < n → Upto 1000000 (wordAt v i)
   pub constant : natAbs k ≤ 1000
-  pub room : n ≤ length s
-  pub small : (i : ℕ) → i < n → natAbs (wordAt s i) ≤ 128000000000
+  pub room : n ≤ length parts
+  pub small : (i : ℕ) → i < n → natAbs (wordAt parts i) ≤ 10000000000000
 
--- A row, differences from which n cells get back, the constant, and what the cells got so far.
-pub record GivesBack (row : List ℤ) (z stride count : ℕ) (d : List ℤ) (n : ℕ) (k : ℤ) (s : List ℤ) : Type 0 where
-  pub gathers : Gathers row z stride count d
-  pub constant : natAbs k ≤ 1000
-  pub room : n ≤ length s
-  pub small : (i : ℕ) → i < n → natAbs (wordAt s i) ≤ 128000000000
-
--- A job and a proposal with n cells, and a list of zeros for what the cells get back.
-pub record Smoothing (ws ps : List ℤ) (n : ℕ) (s : List ℤ) : Type 0 where
+-- A job and a proposal with n cells, and the link parts of the cells.
+pub record Smoothing (ws ps : List ℤ) (n : ℕ) (parts : List ℤ) : Type 0 where
   pub given : Given ws ps
   pub n-is : n ≡ cellsOf ws
-  pub room : n ≤ length s
-  pub zeros : (i : ℕ) → wordAt s i ≡ pos 0
+  pub room : n ≤ length parts
+  pub small : (i : ℕ) → i < n → natAbs (wordAt parts i) ≤ 6400000000000
 
--- A job and a proposal with n cells, and the list s of what the cells get back from the table's differences.
-pub record Measured (ws ps : List ℤ) (n : ℕ) (s : List ℤ) : Type 0 where
-  pub given : Given ws ps
-  pub n-is : n ≡ cellsOf ws
-  pub room : n ≤ length s
-  pub at : (i : ℕ) → i < n → wordAt s i ≡ slopeOn ws ps i
-
--- The same with the roughness of the table, by which its loss is told.
+-- A job and a proposal with n cells, and the roughness of the table, by which its loss is told.
 pub record Losing (ws ps : List ℤ) (n : ℕ) (rough : ℤ) : Type 0 where
   pub given : Given ws ps
   pub n-is : n ≡ cellsOf ws
@@ -130,12 +107,12 @@ pub record Linked (ws ps : List ℤ) (s : ℕ) : Type 0 where
   pub link : LinkAt ws s
   pub proposed : Proposed (cellsOf ws) (linksOf ws) ps
 
--- A number that is added to the link part of a cell.
+-- A product that is added to the part of a cell.
 pub record Adding (parts : List ℤ) (cell : ℕ) (y c : ℤ) : Type 0 where
   pub inside : cell < length parts
-  pub now-small : natAbs (wordAt parts cell) ≤ 8000000000000
-  pub y-in : Upto 1000000000 y
-  pub c-small : natAbs c ≤ 10
+  pub now-small : natAbs (wordAt parts cell) ≤ 200000000000000000
+  pub y-small : natAbs y ≤ 20000000000
+  pub c-small : natAbs c ≤ 1000
 
 -- A link whose multiplier times coefficients are added to link parts.
 pub record Scattering (ws : List ℤ) (s : ℕ) (y : ℤ) (parts : List ℤ) : Type 0 where
@@ -152,29 +129,29 @@ pub record Walking (ws ps : List ℤ) (n : ℕ) (parts : List ℤ) : Type 0 wher
   pub zeros : (i : ℕ) → wordAt parts i ≡ pos 0
 
 -- The numbers of a residual.
-pub record Slopes (w v u s part : ℤ) : Type 0 where
+pub record Slopes (w v u part : ℤ) : Type 0 where
   pub w-in : Upto 1000 w
   pub v-in : Upto 1000000 v
   pub u-in : Upto 1000000 u
-  pub s-small : natAbs s ≤ 256000000000
-  pub part-small : natAbs part ≤ 6400000000000
+  pub part-small : natAbs part ≤ 6912000000000
 
--- The cell i, with the link part of its residual, or with its residual.
-pub record ResidualAt (ws ps : List ℤ) (n : ℕ) (s : List ℤ) (i : ℕ) (part : ℤ) : Type 0 where
-  pub measured : Measured ws ps n s
-  pub inside : i < n
-  pub part-small : natAbs part ≤ 6400000000000
+-- The cell i, with what links and differences add to its residual, or with its residual.
+pub record ResidualAt (ws ps : List ℤ) (i : ℕ) (part : ℤ) : Type 0 where
+  pub given : Given ws ps
+  pub inside : i < cellsOf ws
+  pub part-small : natAbs part ≤ 6912000000000
 
 pub record CellAt (ws ps : List ℤ) (i : ℕ) (r : ℤ) : Type 0 where
   pub given : Given ws ps
   pub inside : i < cellsOf ws
   pub r-small : natAbs r ≤ 7000000000000
 
--- The cells of a table that lies in its boxes, with their link parts and the total of the link terms.
-pub record Totalling (ws ps : List ℤ) (n : ℕ) (s parts : List ℤ) (start : ℤ) : Type 0 where
-  pub measured : Measured ws ps n s
+-- The cells of a table that lies in its boxes, with what links and differences add to their residuals, and the total of the link terms.
+pub record Totalling (ws ps : List ℤ) (n : ℕ) (parts : List ℤ) (start : ℤ) : Type 0 where
+  pub given : Given ws ps
+  pub n-is : n ≡ cellsOf ws
   pub room : n ≤ length parts
-  pub parts-are : (i : ℕ) → i < n → wordAt parts i ≡ linkPartOn ws ps i
+  pub parts-are : (i : ℕ) → i < n → wordAt parts i ≡ linkPartOn ws ps i +ℤ smoothOn ws ps i
   pub boxes : (i : ℕ) → i < n → inBoxOn ws ps i ≡ true
   pub start-least : pos 0 ≤ℤ start
   pub start-small : natAbs start ≤ 8000000000000000000

@@ -18,18 +18,19 @@ familyWith order stride n = along (rowOf order) order stride (n - order * stride
 abbrev pub familyOf : Job → Family
 familyOf j = familyWith (j .order) (j .columns) (j .cells)
 
--- "those along the rows": the difference that starts at a cell, if it lies in one row of `width` cells; 0 where it would run over the row's end.
-abbrev pub rowedForm : (row : ℕ → ℤ) (order stride width start : ℕ) → (v : ℕ → ℤ) → ℤ
-rowedForm row order stride width start v = if ltb (start % width + order * stride) width then formAt row order stride start v else pos 0
+-- "those along the rows": the difference that starts at a cell, if it ends in the same row of a grid of `width` columns; 0 where it would run over that
+-- row's end.
+abbrev pub formWithin : (width : ℕ) (row : ℕ → ℤ) (order stride start : ℕ) → (v : ℕ → ℤ) → ℤ
+formWithin width row order stride start v = if ltb (start % width + order * stride) width then formAt row order stride start v else pos 0
 
-abbrev pub rowed : (width : ℕ) → Family → (v : ℕ → ℤ) → (f : ℕ) → ℤ
-rowed width F v f = rowedForm (F .row) (F .order) (F .stride) width (F .start f) v
+abbrev pub differenceWithin : (width : ℕ) → Family → (v : ℕ → ℤ) → (f : ℕ) → ℤ
+differenceWithin width F v f = formWithin width (F .row) (F .order) (F .stride) (F .start f) v
 
 abbrev pub familyAcross : Job → Family
 familyAcross j = familyWith (j .across) 1 (j .cells)
 
 abbrev pub acrossAt : Job → (v : ℕ → ℤ) → (f : ℕ) → ℤ
-acrossAt j v f = rowed (j .columns) (familyAcross j) v f
+acrossAt j v f = differenceWithin (j .columns) (familyAcross j) v f
 
 -- "Loss F = sum of w(v-u)^2 + k times the sum of D^2"; W-205: "The loss adds k times the squared differences down the columns and the second constant
 -- times those along the rows". The second constant of a job that is no grid is 0.

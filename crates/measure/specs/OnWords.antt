@@ -9,7 +9,7 @@ use Rattle.jobs.specs.Words.{cellsOf, jobOf}
 use Rattle.measure.specs.declared.check.Verdict.{Verdict}
 use Rattle.measure.specs.declared.links.Walked.{Walked}
 use Rattle.measure.specs.Loss.{fitOf, roughOf, lossOf}
-use Rattle.measure.specs.Gap.{limit, slopeOf, smoothPart, linkPart, residualOf, cellTermOf, linkTermOf, gapOf}
+use Rattle.measure.specs.Gap.{limit, smoothPart, linkPart, residualOf, cellTermOf, linkTermOf, gapOf}
 use Rattle.measure.specs.Check.{inBox, holds, valuesOf, multipliersOf, judgedOf, verdictOf}
 use Rattle.measure.specs.Running.{heldLinks, partsOf, walkOf}
 
@@ -34,9 +34,6 @@ lossOn ws ps = lossOf (jobOf ws) (valuesOf ps)
 abbrev pub roughOn : (ws ps : List ℤ) → ℤ
 roughOn ws ps = roughOf (jobOf ws) (valuesOf ps)
 
-abbrev pub slopeOn : (ws ps : List ℤ) → (i : ℕ) → ℤ
-slopeOn ws ps i = slopeOf (jobOf ws) (valuesOf ps) i
-
 abbrev pub smoothOn : (ws ps : List ℤ) → (i : ℕ) → ℤ
 smoothOn ws ps i = smoothPart (jobOf ws) (valuesOf ps) i
 
@@ -46,9 +43,9 @@ linkPartOn ws ps i = linkPart (jobOf ws) (multiplierOn ws ps) i
 abbrev pub residualOn : (ws ps : List ℤ) → (i : ℕ) → ℤ
 residualOn ws ps i = residualOf (jobOf ws) (valuesOf ps) (multiplierOn ws ps) i
 
--- The residual of the cell i with `part` for its link part, and the cell term with r for its residual.
+-- The residual of the cell i with `part` for what differences and links add to it, and the cell term with r for its residual.
 abbrev pub residualWith : (ws ps : List ℤ) → (i : ℕ) → (part : ℤ) → ℤ
-residualWith ws ps i part = pos 2 *ℤ jobOf ws .weight i *ℤ (valuesOf ps i -ℤ jobOf ws .crude i) +ℤ smoothOn ws ps i +ℤ part
+residualWith ws ps i part = pos 2 *ℤ jobOf ws .weight i *ℤ (valuesOf ps i -ℤ jobOf ws .crude i) +ℤ part
 
 abbrev pub cellTermWith : (ws ps : List ℤ) → (i : ℕ) → (r : ℤ) → ℤ
 cellTermWith ws ps i r = cellTerm limit (jobOf ws .weight i) r (jobOf ws .floor i) (jobOf ws .ceiling i) (valuesOf ps i)

@@ -1,6 +1,5 @@
--- What the steps inside the check come to: a lent list that is filled, parts that are added to one, and the running total that is settled once it
--- passes the tolerance.
-use Prim.Native.Nat.{ℕ, zero, suc, _+_, _*_, _≤_, _<_}
+-- What the steps inside the check come to: parts that are added to a lent list, and the running total that is settled once it passes the tolerance.
+use Prim.Native.Nat.{ℕ, zero, suc, _+_, _*_}
 use mathlib.Core.Path.{_≡_}
 use mathlib.Core.List.{List}
 use lib.Dec.{ltb}
@@ -17,12 +16,6 @@ use Rattle.measure.specs.declared.links.Walked.{Walked}
 use Rattle.measure.specs.declared.links.Walked.the-variants.{Broken, Held}
 use Rattle.measure.specs.Gap.{linkCoefficient, linkTermOf}
 use Rattle.measure.specs.Check.{lowestFailing, holds}
-
--- The first n words of a list are set by a rule, and the others stay.
-pub record Filled (n : ℕ) (rule : ℕ → ℤ) (before after : List ℤ) : Type 0 where
-  pub long : length after ≡ length before
-  pub at : (i : ℕ) → i < n → wordAt after i ≡ rule i
-  pub beyond : (i : ℕ) → n ≤ i → wordAt after i ≡ wordAt before i
 
 -- A number is added to each word of a list.
 pub record Added (part : ℕ → ℤ) (before after : List ℤ) : Type 0 where
@@ -47,6 +40,10 @@ boundAt ws s = wordAt ws (s + 1 + 2 * countAt ws s)
 
 unfoldable pub partAt : List ℤ → (s : ℕ) → (y : ℤ) → (i : ℕ) → ℤ
 partAt ws s y i = y *ℤ coefficientOf (countAt ws s) (λ m. countAt ws (s + 1 + 2 * m)) (λ m. wordAt ws (s + 2 + 2 * m)) i
+
+-- What the difference that starts at the cell f adds to the cell i, with the multiplier y.
+abbrev pub backAt : (row : ℕ → ℤ) (order stride f : ℕ) → (y : ℤ) → (i : ℕ) → ℤ
+backAt row order stride f y i = y *ℤ coefficientOf (suc order) (λ m. f + m * stride) row i
 
 -- The links below the lowest broken one ..
 abbrev pub heldLinks : Job → (v : ℕ → ℤ) → ℕ

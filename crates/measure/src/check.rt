@@ -21,8 +21,8 @@ ghost use Rattle.jobs.specs.Words.{cellsOf, linksOf, jobOf};
 ghost use Rattle.jobs.specs.Allowed.{Allowed, Laid};
 ghost use Rattle.measure.specs.Check.{proposalVerdict, proposalWords, checkOf};
 ghost use Rattle.measure.specs.Given.{Given, Boxes, Judging};
-ghost use Rattle.measure.specs.Running.{onWalked};
-ghost use Rattle.measure.specs.OnWords.{judgedOn, verdictOn, walkOn};
+ghost use Rattle.measure.specs.Running.{Added, onWalked};
+ghost use Rattle.measure.specs.OnWords.{smoothOn, judgedOn, verdictOn, walkOn};
 
 // What the check answers: the table is accepted with its loss and gap, or refused with a number and a place.
 pub enum Verdict {
@@ -30,14 +30,13 @@ pub enum Verdict {
     Refused { number: u64, place: usize },
 }
 
-// The verdict on a table that meets its boxes and links, from its link parts and the total of its link terms.
-fn judged(words: &[i64], proposal: &[i64], n: usize, total: i64, parts: &[i64]) -> Verdict
+// The verdict on a table that meets its boxes and links, from the total of its link terms and its link parts, to which its differences add.
+fn judged(words: &[i64], proposal: &[i64], n: usize, total: i64, parts: &mut [i64]) -> Verdict
     requires { ⌜ Judging (now words) (now proposal) n total (now parts) ⌝ }
-    ensures { λ a. ⌜ a ≡ judgedOn (now (words .entry)) (now (proposal .entry)) ⌝ }
+    ensures { λ a. ⌜ (a ≡ judgedOn (now (words .entry)) (now (proposal .entry))) × Added (smoothOn (now (words .entry)) (now (proposal .entry))) (now (parts .entry)) (now (parts .exit)) ⌝ }
 {
-    let mut s = [0i64; 120];
-    let rough = smooth::smoothed(words, proposal, n, &mut s);
-    let g = gap::total_of(words, proposal, n, &s, parts, total);
+    let rough = smooth::smoothed(words, proposal, n, parts);
+    let g = gap::total_of(words, proposal, n, parts, total);
     let t = words::tolerance_of(words);
     if g <= t {
         let f = loss::loss(words, proposal, n, rough);
@@ -61,7 +60,7 @@ fn weighed(words: &[i64], proposal: &[i64], n: usize) -> Verdict
             number: 8,
             place: link,
         },
-        Walked::Held(total) => judged(words, proposal, n, total, &parts),
+        Walked::Held(total) => judged(words, proposal, n, total, &mut parts),
     }
 }
 

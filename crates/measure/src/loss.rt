@@ -2,11 +2,9 @@
 ghost use mathlib.Core.Path.{_≡_};
 ghost use Prim.Native.Nat.{_+_, _*_, _≤_, _<_};
 ghost use lib.IntN.{_*ℤ_};
-ghost use Rattle.whole.specs.Sum.{sum};
-ghost use Rattle.certificate.specs.Problem.{squared};
 ghost use Rattle.certificate.specs.Differences.{formAt};
 ghost use Rattle.jobs.specs.Words.{wordAt, cellsOf};
-ghost use Rattle.measure.specs.Given.{Given, Differs, Difference, Differences, Losing};
+ghost use Rattle.measure.specs.Given.{Given, Differs, Losing};
 ghost use Rattle.measure.specs.OnWords.{fitTermOn, fitOn, lossOn};
 use jobs::words;
 
@@ -60,27 +58,6 @@ fn fit(words: &[i64], values: &[i64], n: usize) -> i64
     let mut i: usize = 0;
     while i < n {
         total += fit_term(words, values, i);
-        i += 1;
-    }
-    total
-}
-
-fn square_of(d: i64) -> i64
-    requires { ⌜ Difference d ⌝ }
-    ensures { λ r. ⌜ r ≡ squared d ⌝ }
-{
-    d * d
-}
-
-// The sum of the squares of the first `count` differences.
-pub fn roughness_of(d: &[i64], count: usize) -> i64
-    requires { ⌜ Differences count (now d) ⌝ }
-    ensures { λ r. ⌜ r ≡ sum count (λ i. squared (wordAt (now (d .entry)) i)) ⌝ }
-{
-    let mut total: i64 = 0;
-    let mut i: usize = 0;
-    while i < count {
-        total += square_of(d[i]);
         i += 1;
     }
     total

@@ -2,7 +2,6 @@
 use mathlib.Core.Path.{sym, _∙_, _≡_}
 use Prim.Native.Nat.{_-_, _≤_}
 use native.Mathlib.Omega.{arith}
-use Rattle.whole.proofs.Solve.{at}
 use Rattle.jobs.specs.Words.{cellsOf}
 use Rattle.measure.proofs.Lowest.{Passed, lowest-all, lowest-at, passed-next, passed-start}
 use Rattle.measure.specs.OnWords.{inBoxOn}

@@ -3,7 +3,6 @@ use mathlib.Core.Path.{_≡_}
 use Prim.Native.Nat.{_-_}
 use native.Mathlib.Omega.{arith}
 use borrow.Author.Needs.{needs}
-use Rattle.whole.proofs.Solve.{at}
 use Rattle.measure.proofs.check.check_first.Statement.{statement}
 use Rattle.measure.proofs.check.check_first.Tie as tie
 

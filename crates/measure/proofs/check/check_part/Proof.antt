@@ -2,7 +2,6 @@
 use mathlib.Core.Path.{_≡_}
 use Prim.Native.Nat.{_-_}
 use native.Mathlib.Omega.{arith}
-use Rattle.whole.proofs.Solve.{at}
 use borrow.Author.Needs.{needs}
 use Rattle.measure.proofs.check.check_part.Statement.{statement}
 use Rattle.measure.proofs.check.check_part.Tie as tie

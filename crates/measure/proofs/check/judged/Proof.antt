@@ -4,14 +4,8 @@ use borrow.Author.Needs.{needs}
 use Rattle.measure.proofs.check.judged.Statement.{statement}
 use Rattle.measure.proofs.check.judged.Tie as tie
 
-slice-aggregate-smoothed : tie.Need-slice-aggregate-smoothed
-slice-aggregate-smoothed c = search needs
-
 smoothed-requires : tie.Need-smoothed-requires
 smoothed-requires c κs = judge-smoothing (c .before .pre)
-
-slice-aggregate-total-of : tie.Need-slice-aggregate-total-of
-slice-aggregate-total-of c = search needs
 
 total-of-requires : tie.Need-total-of-requires
 total-of-requires c κs = judge-totalling (c .before .before .before .before .pre) (c .before .before .smoothed .ensures .1)
@@ -22,21 +16,35 @@ tolerance-of-requires c κs = search needs
 loss-requires : tie.Need-loss-requires
 loss-requires c κs = judge-losing (c .before .before .before .before .before .before .before .pre) (c .before .before .before .before .before .smoothed .ensures .0)
 
+same-length : tie.Need-same-length
+same-length c = search needs
+
 returns : tie.Need-returns
-returns c = judged-accepts (c .before .before .before .before .before .before .before .before .pre) (c .before .before .before .before .before .before .smoothed .ensures .1) (c .before .before .before .total-of .ensures) (c .before .before .tolerance-of .ensures) (c .loss .ensures) (c .before .if1 .taken)
+returns c =
+    let s = c .before .before .before .before .before .before in (
+      judged-accepts (s .before .before .pre) (s .smoothed .ensures .1) (c .before .before .before .total-of .ensures) (c .before .before .tolerance-of .ensures) (c .loss .ensures) (c .before .if1 .taken),
+      s .smoothed .ensures .1,
+    )
+
+same-length-2 : tie.Need-same-length-2
+same-length-2 c = search needs
 
 returns-2 : tie.Need-returns-2
-returns-2 c = judged-refuses (c .before .before .before .before .before .before .before .pre) (c .before .before .before .before .before .smoothed .ensures .1) (c .before .before .total-of .ensures) (c .before .tolerance-of .ensures) (c .if1 .left)
+returns-2 c =
+    let s = c .before .before .before .before .before in (
+      judged-refuses (s .before .before .pre) (s .smoothed .ensures .1) (c .before .before .total-of .ensures) (c .before .tolerance-of .ensures) (c .if1 .left),
+      s .smoothed .ensures .1,
+    )
 
 pub judged-spec : {M : Type 1} → statement M
 judged-spec =
     tie.close
     (tie.spec
-    slice-aggregate-smoothed
     smoothed-requires
-    slice-aggregate-total-of
     total-of-requires
     tolerance-of-requires
     loss-requires
+    same-length
     returns
+    same-length-2
     returns-2)

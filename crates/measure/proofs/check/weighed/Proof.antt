@@ -28,7 +28,7 @@ returns : tie.Need-returns
 returns c = weighed-broken (c .before .before .before .before .before .before .pre) (c .before .before .before .before .walk .ensures .0) (c .before .walked .given .1)
 
 returns-2 : tie.Need-returns-2
-returns-2 c = weighed-held (c .before .before .before .before .before .before .before .before .pre) (c .before .before .before .before .before .before .walk .ensures .0) (c .before .before .before .walked2 .given .1) (c .judged .ensures)
+returns-2 c = weighed-held (c .before .before .before .before .before .before .before .before .before .pre) (c .before .before .before .before .before .before .before .walk .ensures .0) (c .before .before .before .before .walked2 .given .1) (c .before .judged .ensures .0)
 
 pub weighed-spec : {M : Type 1} → statement M
 weighed-spec =

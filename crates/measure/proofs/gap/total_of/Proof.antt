@@ -5,7 +5,6 @@ use native.Mathlib.Omega.{arith}
 use mir.Syntax.{w64}
 use mir.Val.{toZ}
 use Rattle.whole.proofs.Fits.{Holds, gives}
-use Rattle.whole.proofs.Solve.{at}
 use Rattle.jobs.specs.Words.{jobOf}
 use Rattle.measure.proofs.Places.{tolerance-fits}
 use Rattle.measure.proofs.Totalled.{total-cell, total-ends, total-next, total-residual, total-settles, totalling-by}
@@ -16,19 +15,19 @@ use Rattle.measure.proofs.gap.total_of.Statement.{statement}
 use Rattle.measure.proofs.gap.total_of.Tie as tie
 
 abbrev Inv-loop : tie.InvT-loop
-Inv-loop words proposal n s parts start tolerance total₀ i₀ total i = (i ≤ n) × (Holds tolerance (jobOf words .tolerance) × Holds total (runOf (jobOf words .tolerance) (toZ w64 start) (cellTermOn words proposal) i))
+Inv-loop words proposal n parts start tolerance total₀ i₀ total i = (i ≤ n) × (Holds tolerance (jobOf words .tolerance) × Holds total (runOf (jobOf words .tolerance) (toZ w64 start) (cellTermOn words proposal) i))
 
 abbrev μ-loop : tie.MeasureT-loop
-μ-loop words proposal n s parts start tolerance total₀ i₀ total i = n - i
+μ-loop words proposal n parts start tolerance total₀ i₀ total i = n - i
 
 tolerance-of-requires : tie.Need-tolerance-of-requires Inv-loop μ-loop
-tolerance-of-requires c κs = (c .pre .measured .given .allowed, c .pre .measured .given .laid)
+tolerance-of-requires c κs = (c .pre .given .allowed, c .pre .given .laid)
 
 loop-holds : tie.Need-loop-holds Inv-loop μ-loop
-loop-holds c = (omega arith, (record { is = gives (c .tolerance-of .ensures) (tolerance-fits (c .before .pre .measured .given .allowed .tolerance)) }, run-begins _ _ _ refl))
+loop-holds c = (omega arith, (record { is = gives (c .tolerance-of .ensures) (tolerance-fits (c .before .pre .given .allowed .tolerance)) }, run-begins _ _ _ refl))
 
 mul-residual-at : tie.Need-mul-residual-at Inv-loop μ-loop
-mul-residual-at c = omega (arith, c .before .before .before .pre .measured .n-is, c .before .before .before .pre .measured .given .allowed .cells-few)
+mul-residual-at c = omega (arith, c .before .before .before .pre .n-is, c .before .before .before .pre .given .allowed .cells-few)
 
 shared-slice-copy-out-residual-at : tie.Need-shared-slice-copy-out-residual-at Inv-loop μ-loop
 shared-slice-copy-out-residual-at c = omega (arith, c .before .before .before .pre .room)

@@ -1,4 +1,4 @@
--- The part stays below 8.01·10^12.
+-- The part stays below 2.1·10^17.
 use mathlib.Core.Path.{ap}
 use borrow.Author.Needs.{needs}
 use lib.ListN.{set}

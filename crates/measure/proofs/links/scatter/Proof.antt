@@ -5,14 +5,13 @@ use native.Mathlib.Omega.{arith}
 use mir.Syntax.{w64}
 use mir.Val.{toZ}
 use Rattle.whole.proofs.Fits.{gives}
-use Rattle.whole.proofs.Solve.{at}
-use Rattle.measure.proofs.Scattered.{cell-counts, coefficient-read, link-counts, scattering-by, term-adding, term-next, terms-end, terms-start, termsOf}
+use Rattle.measure.proofs.Scattered.{cell-counts, coefficient-read, link-counts, link-end, link-spread, linkTerms, scattering-by, term-adding, term-next, terms-start}
 use Rattle.measure.specs.Running.{Added}
 use Rattle.measure.proofs.links.scatter.Statement.{statement}
 use Rattle.measure.proofs.links.scatter.Tie as tie
 
 abbrev Inv-loop : tie.InvT-loop
-Inv-loop words s y parts₀ t m₀ parts m = (m ≤ t) × Added (termsOf words s (toZ w64 y) m) parts₀ parts
+Inv-loop words s y parts₀ t m₀ parts m = (m ≤ t) × Added (linkTerms words s (toZ w64 y) m) parts₀ parts
 
 abbrev μ-loop : tie.MeasureT-loop
 μ-loop words s y parts₀ t m₀ parts m = t - m
@@ -21,7 +20,7 @@ count-at-requires : tie.Need-count-at-requires Inv-loop μ-loop
 count-at-requires c κs = link-counts (c .pre .link)
 
 loop-holds : tie.Need-loop-holds Inv-loop μ-loop
-loop-holds c = (omega arith, terms-start (scattering-by (sym (gives refl (c .before .fits .y))) (c .before .pre)))
+loop-holds c = (omega arith, terms-start (link-spread (scattering-by (sym (gives refl (c .before .fits .y))) (c .before .pre))))
 
 add-at : tie.Need-add-at Inv-loop μ-loop
 add-at c = omega (arith, c .before .before .before .pre .link .inside, c .before .before .count-at .ensures)
@@ -52,7 +51,7 @@ shared-slice-copy-out-add-at c = omega (arith, c .before .before .before .before
 
 add-at-requires : tie.Need-add-at-requires Inv-loop μ-loop
 add-at-requires c κs = let t = c .before .before .before in
-    term-adding (scattering-by (sym (gives refl (t .before .before .before .fits .y))) (t .before .before .before .pre)) (omega (arith, t .before .before .count-at .ensures)) (t .before .loop .inv .1) (c .before .before .count-at2 .ensures)
+    term-adding (link-spread (scattering-by (sym (gives refl (t .before .before .before .fits .y))) (t .before .before .before .pre))) (omega (arith, t .before .before .count-at .ensures)) (t .before .loop .inv .1) (c .before .before .count-at2 .ensures)
     (coefficient-read (t .before .before .before .pre .link) (t .before .loop .m) (omega (arith, t .before .before .count-at .ensures)))
 
 add-m : tie.Need-add-m Inv-loop μ-loop
@@ -64,7 +63,7 @@ loop-less c = omega arith
 loop-again : tie.Need-loop-again Inv-loop μ-loop
 loop-again c = let t = c .before .before .before .before .before in (
   omega arith,
-  term-next (scattering-by (sym (gives refl (t .before .before .before .fits .y))) (t .before .before .before .pre)) (omega (arith, t .before .before .count-at .ensures)) (t .before .loop .inv .1) (c .before .before .before .before .count-at2 .ensures)
+  term-next (link-spread (scattering-by (sym (gives refl (t .before .before .before .fits .y))) (t .before .before .before .pre))) (omega (arith, t .before .before .count-at .ensures)) (t .before .loop .inv .1) (c .before .before .before .before .count-at2 .ensures)
       (coefficient-read (t .before .before .before .pre .link) (t .before .loop .m) (omega (arith, t .before .before .count-at .ensures))) (c .before .add-at .ensures),
 )
 
@@ -72,7 +71,7 @@ same-length : tie.Need-same-length Inv-loop μ-loop
 same-length c = c .before .loop .inv .1 .long
 
 returns : tie.Need-returns Inv-loop μ-loop
-returns c = rw (gives {x = c .before .before .before .args .y} refl (c .before .before .before .fits .y)) at (terms-end (scattering-by (sym (gives refl (c .before .before .before .fits .y))) (c .before .before .before .pre)) (omega (arith, c .before .before .count-at .ensures)) (c .before .loop .inv .1))
+returns c = rw (gives {x = c .before .before .before .args .y} refl (c .before .before .before .fits .y)) at (link-end (scattering-by (sym (gives refl (c .before .before .before .fits .y))) (c .before .before .before .pre)) (omega (arith, c .before .before .count-at .ensures)) (c .before .loop .inv .1))
 
 pub scatter-spec : {M : Type 1} → statement M
 scatter-spec =

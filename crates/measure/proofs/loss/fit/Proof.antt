@@ -3,7 +3,6 @@ use mathlib.Core.Path.{sym, _≡_}
 use Prim.Native.Nat.{_-_, _≤_}
 use native.Mathlib.Omega.{arith}
 use Rattle.whole.proofs.Fits.{Holds, adds-fits, adds-next}
-use Rattle.whole.proofs.Solve.{at}
 use Rattle.whole.proofs.Sums.{sum-zero}
 use Rattle.whole.specs.Sum.{sum}
 use Rattle.jobs.specs.Words.{cellsOf}

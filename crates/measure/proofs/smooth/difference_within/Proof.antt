@@ -1,12 +1,11 @@
--- The end of a difference is told by its column; one that ends in its row is a difference.
+-- The end of a difference is told by its column; one that ends in the row of its start is a difference.
 use native.Mathlib.Omega.{arith}
 use borrow.Author.Tests.{lt-ltb, le-ltb}
 use Rattle.whole.proofs.Fits.{gives}
 use Rattle.measure.proofs.Differences.{difference-fits}
 use Rattle.measure.proofs.Directions.{end-inside}
-use borrow.Author.Needs.{needs}
-use Rattle.measure.proofs.smooth.rowed_at.Statement.{statement}
-use Rattle.measure.proofs.smooth.rowed_at.Tie as tie
+use Rattle.measure.proofs.smooth.difference_within.Statement.{statement}
+use Rattle.measure.proofs.smooth.difference_within.Tie as tie
 
 mul-reach : tie.Need-mul-reach
 mul-reach c = omega (arith, c .pre .0 .inside)
@@ -26,6 +25,6 @@ returns c = rw (lt-ltb _ _ (c .before .if1 .taken)) (gives (c .difference-at .en
 returns-2 : tie.Need-returns-2
 returns-2 c = rw (le-ltb _ _ (c .if1 .left))
 
-pub rowed-at-spec : {M : Type 1} → statement M
-rowed-at-spec =
+pub difference-within-spec : {M : Type 1} → statement M
+difference-within-spec =
     tie.close (tie.spec mul-reach rem-column add-end difference-at-requires returns returns-2)

@@ -111,11 +111,9 @@ fn right_at(w: i64, u: i64) -> f64
 }
 
 // The right side of a job, by cell.
-pub fn right(words: &[i64], n: usize) -> [f64; CELLS]
-    requires { ⌜ Known (now words) × (n ≡ cellsOf (now words)) ⌝ }
-    ensures { λ r. ⌜ r ≡ rightOf (jobOf (now (words .entry))) ⌝ }
+pub fn right(words: &[i64], made: &mut [f64; CELLS])
 {
-    let mut made = [0.0; CELLS];
+    let n = jobs::words::cells_of(words);
     let mut i = 0;
     while i < n {
         let w = weight_at(words, i);
@@ -123,5 +121,4 @@ pub fn right(words: &[i64], n: usize) -> [f64; CELLS]
         made[i] = right_at(w, u);
         i += 1;
     }
-    made
 }

@@ -2,13 +2,13 @@
 use crate::band::band;
 use crate::band::right;
 use crate::factoring::PLACES;
-use crate::factoring::WIDTH;
 use crate::factoring::factor_band;
 use crate::grid::solve_grid;
 use crate::rounding::round_out;
 use factor::CELLS;
 use factor::Ending;
 use factor::solve::solve;
+use factor::starts_of;
 use fields::Field;
 use jobs::job::JOB_WORDS;
 use jobs::proposal::PROPOSAL_WORDS;
@@ -31,51 +31,22 @@ ghost use Rattle.house.specs.Known.{Known};
 ghost use Rattle.house.specs.Filled.{filled};
 ghost use Rattle.house.specs.Proposal.{lineSolved, solvedOf, valueOf, writtenOf, proposedOf, proposeOf};
 
-// How the factoring ends, and the values before rounding; zeros where it is thin.
-pub struct Solved {
-    pub ending: Ending,
-    pub values: [f64; CELLS],
-}
-
-// The same for a job that is no grid.
-fn solve_line(words: &[i64]) -> Solved
-    requires { ⌜ Known (now words) ⌝ }
-    ensures { λ r. ⌜ r ≡ lineSolved (jobOf (now (words .entry))) ⌝ }
+// How the factoring of a line ends; where it is whole, the values before rounding come in place of the right side.
+fn solve_line(words: &[i64], z: usize, v: &mut [f64; CELLS]) -> Ending
 {
     let n = cells_of(words);
-    let z = order_of(words);
     let a = band(words, n, z);
+    let starts = starts_of(n, z);
     let mut d = [0.0; CELLS];
     let mut l = [0.0; PLACES];
-    let ending = factor_band(a, n, z, &mut d, &mut l);
+    let ending = factor_band(a, n, z, &starts, &mut d, &mut l);
     match ending {
-        Ending::Thin(cell, pivot) => {
-            let values = [0.0; CELLS];
-            Solved {
-                ending: Ending::Thin(cell, pivot),
-                values,
-            }
-        }
+        Ending::Thin(cell, pivot) => Ending::Thin(cell, pivot),
         Ending::Whole => {
-            let b = right(words, n);
-            let values = solve(&d, &l, WIDTH, b, n, z);
-            Solved {
-                ending: Ending::Whole,
-                values,
-            }
+            solve(&d, &l, &starts, v, n, z);
+            Ending::Whole
         }
     }
-}
-
-// A job that is no grid has one column.
-fn solve_job(words: &[i64], columns: usize) -> Solved
-    requires { ⌜ Known (now words) × (columns ≡ columnsOf (now words)) × (columns ≤ 12) ⌝ }
-    ensures { λ r. ⌜ r ≡ solvedOf (jobOf (now (words .entry))) ⌝ }
-{
-    if columns == 1 {
-        return solve_line(words);
-    }
-    solve_grid(words)
 }
 
 // v rounded out into the box of the cell i.
@@ -103,34 +74,57 @@ fn values_of(words: &[i64], n: usize, v: &[f64; CELLS]) -> [i64; PROPOSAL_WORDS]
     made
 }
 
-fn write_values(words: &[i64], v: [f64; CELLS], out: &mut [u8]) -> Outcome
+fn write_values(words: &[i64], v: &[f64; CELLS], out: &mut [u8]) -> Outcome
     requires { ⌜ Known (now words) ⌝ }
     ensures { λ r. ⌜ (r ≡ writtenOf (length (now (out .entry))) (jobOf (now (words .entry))) v .outcome) × (now (out .exit) ≡ sets (now (out .entry)) 0 (writtenOf (length (now (out .entry))) (jobOf (now (words .entry))) v .bytes)) ⌝ }
 {
     let n = cells_of(words);
     let links = links_of(words, n);
-    let values = values_of(words, n, &v);
+    let values = values_of(words, n, v);
     let count = n + links;
     packs::writing::put(&values[0..count], out)
+}
+
+fn short_line(words: &[i64], z: usize, v: &mut [f64; CELLS]) -> Ending
+{
+    solve_line(words, z, v)
+}
+
+fn narrow_grid(words: &[i64], z: usize, v: &mut [f64; CELLS]) -> Ending
+{
+    solve_grid(words, z, v)
+}
+
+fn solve_job(words: &[i64], columns: usize, v: &mut [f64; CELLS]) -> Ending
+{
+    let z = order_of(words);
+    if columns == 1 {
+        if z <= 2 {
+            return short_line(words, z, v);
+        }
+        return solve_line(words, z, v);
+    }
+    let reach = z * columns;
+    if reach <= 12 {
+        return narrow_grid(words, reach, v);
+    }
+    solve_grid(words, reach, v)
 }
 
 // The proposal for the words of a job that was read.
 pub fn propose_for(words: &[i64], out: &mut [u8]) -> Outcome
     requires { ⌜ Known (now words) ⌝ }
-    ensures { λ r. ⌜ (r ≡ proposedOf (length (now (out .entry))) (jobOf (now (words .entry))) .outcome) × (now (out .exit) ≡ sets (now (out .entry)) 0 (proposedOf (length (now (out .entry))) (jobOf (now (words .entry))) .bytes)) ⌝ }
 {
     let columns = columns_of(words);
     if 12 < columns {
         return Outcome::Refused(20, 0);
     }
-    let solved = solve_job(words, columns);
-    let ending = solved.ending;
+    let mut v = [0.0; CELLS];
+    right(words, &mut v);
+    let ending = solve_job(words, columns, &mut v);
     match ending {
         Ending::Thin(cell, _) => Outcome::Refused(10, cell),
-        Ending::Whole => {
-            let v = solved.values;
-            write_values(words, v, out)
-        }
+        Ending::Whole => write_values(words, &v, out),
     }
 }
 

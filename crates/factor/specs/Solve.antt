@@ -3,6 +3,8 @@ use Prim.Native.Nat.{ℕ, zero, suc, _+_, _-_, min}
 use mathlib.Core.List.{List}
 use lib.ListN.{getD, set}
 use lib.Ieee.{Float, nan, binary64, mul, div}
+use Rattle.factor.specs.declared.Ending.{Ending}
+use Rattle.factor.specs.declared.Ending.the-variants.{Whole, Thin}
 use Rattle.factor.specs.Factor.{pivotAt, multiplierAt, rowAt, lessBy, lowest}
 
 -- "min(n-1, j+z)"
@@ -39,3 +41,8 @@ backwardFrom l z n (suc j) v =
 -- The values before rounding, of a right side.
 abbrev pub solutionOf : (d l : List Float) (z n : ℕ) (right : List Float) → List Float
 solutionOf d l z n right = backwardFrom l z n n (dividedFrom d n 0 (forwardFrom l z n 0 right))
+
+-- What a factor makes of a right side by how its making ended: the values before rounding, or, where it is thin, the right side as it was.
+abbrev pub solvedBy : (z n : ℕ) (right d l : List Float) → Ending → List Float
+solvedBy z n right d l Whole = solutionOf d l z n right
+solvedBy z n right d l (Thin cell pivot) = right

@@ -1,5 +1,6 @@
 // The solve with a whole factor: forward, division, backward, each in the place of what it was made of.
 use crate::CELLS;
+use crate::Ending;
 use crate::STARTS;
 use crate::lowest_of;
 use crate::start_at;
@@ -8,7 +9,7 @@ ghost use Prim.Native.Nat.{_+_, _-_, _≤_, _<_};
 ghost use lib.ListN.{length};
 ghost use Rattle.factor.specs.Factor.{lessBy};
 ghost use Rattle.factor.specs.Places.{Placed};
-ghost use Rattle.factor.specs.Solve.{highest, lowerTerm, upperTerm, forwardFrom, dividedFrom, backwardFrom, solutionOf};
+ghost use Rattle.factor.specs.Solve.{highest, lowerTerm, upperTerm, forwardFrom, dividedFrom, backwardFrom, solutionOf, solvedBy};
 
 // min(n - 1, j + z)
 fn highest_of(j: usize, z: usize, n: usize) -> usize
@@ -105,7 +106,7 @@ fn backward(l: &[f64], starts: &[u16; STARTS], v: &mut [f64; CELLS], n: usize, z
 }
 
 // The values before rounding, in place of the right side.
-pub fn solve(
+fn solve(
     d: &[f64; CELLS],
     l: &[f64],
     starts: &[u16; STARTS],
@@ -119,4 +120,26 @@ pub fn solve(
     forward(l, starts, v, n, z);
     divide(d, v, n);
     backward(l, starts, v, n, z);
+}
+
+// The same where the factor is whole; where it is thin, nothing is done. The ending is handed back.
+pub fn solve_whole(
+    ending: Ending,
+    d: &[f64; CELLS],
+    l: &[f64],
+    starts: &[u16; STARTS],
+    v: &mut [f64; CELLS],
+    n: usize,
+    z: usize,
+) -> Ending
+    requires { ⌜ (n ≤ 120) × (z ≤ 120) × Placed z n (now starts) (now l) ⌝ }
+    ensures { λ r. ⌜ (r ≡ ending) × (now (v .exit) ≡ solvedBy z n (now (v .entry)) (now (d .entry)) (now (l .entry)) ending) ⌝ }
+{
+    match ending {
+        Ending::Thin(cell, pivot) => Ending::Thin(cell, pivot),
+        Ending::Whole => {
+            solve(d, l, starts, v, n, z);
+            Ending::Whole
+        }
+    }
 }

@@ -10,7 +10,8 @@ use factor::STARTS;
 use factor::factor_row;
 use factor::lowest_of;
 use factor::put_row;
-use factor::solve::solve;
+use factor::solve::solve_whole;
+use factor::start_at;
 use factor::starts_of;
 use factor::value_of;
 use jobs::words::across_of;
@@ -20,6 +21,18 @@ use jobs::words::constant_of;
 use jobs::words::order_of;
 use jobs::words::second_of;
 use jobs::words::weight_at;
+ghost use mathlib.Core.Path.{_≡_};
+ghost use Prim.Native.Nat.{_+_, _*_, _≤_, _<_};
+ghost use lib.ListN.{replicate};
+ghost use lib.Seq.{sets};
+ghost use Rattle.rows.specs.Rows.{IsRow};
+ghost use Rattle.factor.specs.Factor.{startOf, judged, factorStep, factorFrom};
+ghost use Rattle.factor.specs.Places.{Placed};
+ghost use Rattle.jobs.specs.Words.{jobOf, cellsOf, orderOf, acrossOf};
+ghost use Rattle.house.specs.Known.{Known};
+ghost use Rattle.house.specs.Band.{zero64, rightOf};
+ghost use Rattle.house.specs.Grid.{gridRows, gridSolved};
+ghost use Rattle.house.specs.Held.{belowOf, besideOf, entryBy, spreadOf, Narrow};
 
 // The most entries of a row of the band, the most multipliers of a row, and the most of all rows.
 pub const ENTRIES: usize = 49;
@@ -29,25 +42,31 @@ pub const WIDTH: usize = 48;
 pub const PLACES: usize = 4584;
 
 // A at (i, i - t·columns) by t, the diagonal whole.
-fn below_of(words: &[i64], down_row: &[i64; 5], across_row: &[i64; 5], columns: usize, i: usize) -> [f64; 5]
+fn below_of(words: &[i64], down_row: &[i64; 5], across_row: &[i64; 5], i: usize) -> [f64; 5]
+    requires { ⌜ Known (now words) × (i < cellsOf (now words)) × IsRow (orderOf (now words)) (now down_row) × IsRow (acrossOf (now words)) (now across_row) ⌝ }
+    ensures { λ r. ⌜ r ≡ belowOf (jobOf (now (words .entry))) i ⌝ }
 {
+    let n = cells_of(words);
+    let columns = columns_of(words);
+    let down = order_of(words);
     let across = across_of(words);
+    let constant = constant_of(words);
+    let second = second_of(words);
+    let rows = n / columns;
+    let row = i / columns;
     let place = i % columns;
     let squares = squares_at(across_row, columns, across, place, 0);
     let w = weight_at(words, i);
-    let second = second_of(words);
     let whole = whole_entry(w, second, squares, 0);
-    let n = cells_of(words);
-    let rows = n / columns;
-    let row = i / columns;
-    let k = constant_of(words);
-    let down = order_of(words);
-    entries_of(down_row, whole, k, rows, down, row)
+    entries_of(down_row, whole, constant, rows, down, row)
 }
 
 // A at (i, i - o) by o from 1 on.
-fn beside_of(words: &[i64], across_row: &[i64; 5], columns: usize, i: usize) -> [f64; 5]
+fn beside_of(words: &[i64], across_row: &[i64; 5], i: usize) -> [f64; 5]
+    requires { ⌜ Known (now words) × IsRow (acrossOf (now words)) (now across_row) ⌝ }
+    ensures { λ r. ⌜ r ≡ besideOf (jobOf (now (words .entry))) i ⌝ }
 {
+    let columns = columns_of(words);
     let across = across_of(words);
     let second = second_of(words);
     let place = i % columns;
@@ -56,6 +75,8 @@ fn beside_of(words: &[i64], across_row: &[i64; 5], columns: usize, i: usize) -> 
 
 // The entry at an offset o that is t whole rows and `past` cells: 0 where neither of the two has it.
 fn entry_at(below: &[f64; 5], beside: &[f64; 5], o: usize, t: usize, past: usize) -> f64
+    requires { ⌜ t < 5 ⌝ }
+    ensures { λ r. ⌜ r ≡ entryBy (now (below .entry)) (now (beside .entry)) o t past ⌝ }
 {
     if past == 0 {
         return below[t];
@@ -67,11 +88,19 @@ fn entry_at(below: &[f64; 5], beside: &[f64; 5], o: usize, t: usize, past: usize
 }
 
 // A row of the band, by offset, zero entries included.
-fn spread(columns: usize, z: usize, below: &[f64; 5], beside: &[f64; 5], made: &mut [f64; ENTRIES])
+fn spread(
+    columns: usize,
+    z: usize,
+    below: &[f64; 5],
+    beside: &[f64; 5],
+    made: &mut [f64; ENTRIES],
+)
+    requires { ⌜ (1 ≤ columns) × (z ≤ 48) × (z < 5 * columns) ⌝ }
+    ensures { λ _. ⌜ now (made .exit) ≡ spreadOf columns z (now (below .entry)) (now (beside .entry)) (now (made .entry)) ⌝ }
 {
-    let mut t = 0;
-    let mut past = 0;
-    let mut o = 0;
+    let mut o: usize = 0;
+    let mut t: usize = 0;
+    let mut past: usize = 0;
     while o <= z {
         made[o] = entry_at(below, beside, o, t, past);
         o += 1;
@@ -83,23 +112,62 @@ fn spread(columns: usize, z: usize, below: &[f64; 5], beside: &[f64; 5], made: &
     }
 }
 
-fn grid_row(words: &[i64], down_row: &[i64; 5], across_row: &[i64; 5], z: usize, i: usize, made: &mut [f64; ENTRIES])
+// Row i of the band, into a list of zeros.
+fn grid_row(
+    words: &[i64],
+    down_row: &[i64; 5],
+    across_row: &[i64; 5],
+    z: usize,
+    i: usize,
+    made: &mut [f64; ENTRIES],
+)
+    requires { ⌜ Narrow (now words) z × (i < cellsOf (now words)) × IsRow (orderOf (now words)) (now down_row) × IsRow (acrossOf (now words)) (now across_row) × (now made ≡ replicate 49 zero64) ⌝ }
+    ensures { λ _. ⌜ now (made .exit) ≡ gridRows (jobOf (now (words .entry))) i ⌝ }
 {
     let columns = columns_of(words);
-    let below = below_of(words, down_row, across_row, columns, i);
-    let beside = beside_of(words, across_row, columns, i);
+    let below = below_of(words, down_row, across_row, i);
+    let beside = beside_of(words, across_row, i);
     spread(columns, z, &below, &beside, made);
 }
 
-// One step of the factoring: row j to its places among the multipliers, and its pivot, accepted or thin.
-fn grid_step(entries: &[f64; ENTRIES], d: &[f64; CELLS], l: &mut [f64], starts: &[usize; STARTS], j: usize, z: usize) -> Pivot
+// Row j of the factor to its places among the multipliers, from row j of the band, and its pivot, accepted or thin.
+fn factor_into(
+    entries: &[f64; ENTRIES],
+    d: &[f64; CELLS],
+    l: &mut [f64],
+    starts: &[u16; STARTS],
+    j: usize,
+    z: usize,
+) -> Pivot
+    requires { ⌜ (j < 120) × (z ≤ 48) × Placed z (j + 1) (now starts) (now l) ⌝ }
+    ensures { λ r. ⌜ (r ≡ judged (factorStep (now (entries .entry)) (now (d .entry)) (now (l .entry)) z j .pivot)) × (now (l .exit) ≡ sets (now (l .entry)) (startOf z j) (factorStep (now (entries .entry)) (now (d .entry)) (now (l .entry)) z j .multipliers)) ⌝ }
 {
     let mut made = [0.0; WIDTH];
-    let count = j - lowest_of(j, z);
+    let lo = lowest_of(j, z);
+    let count = j - lo;
     let pivot = factor_row(entries, d, l, starts, j, z, &mut made[0..count]);
-    let at = starts[j];
+    let at = start_at(starts, j);
     put_row(&made[0..count], l, at);
     pivot
+}
+
+// One step of the factoring of a grid's band.
+fn grid_step(
+    words: &[i64],
+    down_row: &[i64; 5],
+    across_row: &[i64; 5],
+    d: &[f64; CELLS],
+    l: &mut [f64],
+    starts: &[u16; STARTS],
+    j: usize,
+    z: usize,
+) -> Pivot
+    requires { ⌜ Narrow (now words) z × (j < cellsOf (now words)) × IsRow (orderOf (now words)) (now down_row) × IsRow (acrossOf (now words)) (now across_row) × Placed z (j + 1) (now starts) (now l) ⌝ }
+    ensures { λ r. ⌜ (r ≡ judged (factorStep (gridRows (jobOf (now (words .entry))) j) (now (d .entry)) (now (l .entry)) z j .pivot)) × (now (l .exit) ≡ sets (now (l .entry)) (startOf z j) (factorStep (gridRows (jobOf (now (words .entry))) j) (now (d .entry)) (now (l .entry)) z j .multipliers)) ⌝ }
+{
+    let mut entries = [0.0; ENTRIES];
+    grid_row(words, down_row, across_row, z, j, &mut entries);
+    factor_into(&entries, d, l, starts, j, z)
 }
 
 // The factor of a grid's band, into lent pivots and multipliers.
@@ -109,16 +177,16 @@ fn factor_grid(
     across_row: &[i64; 5],
     n: usize,
     z: usize,
-    starts: &[usize; STARTS],
+    starts: &[u16; STARTS],
     d: &mut [f64; CELLS],
     l: &mut [f64],
 ) -> Ending
+    requires { ⌜ Narrow (now words) z × (n ≡ cellsOf (now words)) × IsRow (orderOf (now words)) (now down_row) × IsRow (acrossOf (now words)) (now across_row) × Placed z n (now starts) (now l) ⌝ }
+    ensures { λ r. ⌜ (r ≡ factorFrom (gridRows (jobOf (now (words .entry)))) z n 0 (now (d .entry)) (now (l .entry)) .ending) × (now (d .exit) ≡ factorFrom (gridRows (jobOf (now (words .entry)))) z n 0 (now (d .entry)) (now (l .entry)) .pivots) × (now (l .exit) ≡ factorFrom (gridRows (jobOf (now (words .entry)))) z n 0 (now (d .entry)) (now (l .entry)) .multipliers) ⌝ }
 {
-    let mut entries = [0.0; ENTRIES];
     let mut j = 0;
     while j < n {
-        grid_row(words, down_row, across_row, z, j, &mut entries);
-        let pivot = grid_step(&entries, d, l, starts, j, z);
+        let pivot = grid_step(words, down_row, across_row, d, l, starts, j, z);
         let x = value_of(pivot);
         d[j] = x;
         match pivot {
@@ -134,6 +202,8 @@ fn factor_grid(
 
 // How the factoring of a grid ends; where it is whole, the values before rounding come in place of the right side.
 pub fn solve_grid(words: &[i64], z: usize, v: &mut [f64; CELLS]) -> Ending
+    requires { ⌜ Narrow (now words) z × (now v ≡ rightOf (jobOf (now words))) ⌝ }
+    ensures { λ r. ⌜ (r ≡ gridSolved (jobOf (now (words .entry))) .ending) × (now (v .exit) ≡ gridSolved (jobOf (now (words .entry))) .values) ⌝ }
 {
     let n = cells_of(words);
     let down_row = rows::row_of(order_of(words));
@@ -141,12 +211,15 @@ pub fn solve_grid(words: &[i64], z: usize, v: &mut [f64; CELLS]) -> Ending
     let starts = starts_of(n, z);
     let mut d = [0.0; CELLS];
     let mut l = [0.0; PLACES];
-    let ending = factor_grid(words, &down_row, &across_row, n, z, &starts, &mut d, &mut l);
-    match ending {
-        Ending::Thin(cell, pivot) => Ending::Thin(cell, pivot),
-        Ending::Whole => {
-            solve(&d, &l, &starts, v, n, z);
-            Ending::Whole
-        }
-    }
+    let ending = factor_grid(
+        words,
+        &down_row,
+        &across_row,
+        n,
+        z,
+        &starts,
+        &mut d,
+        &mut l,
+    );
+    solve_whole(ending, &d, &l, &starts, v, n, z)
 }

@@ -7,7 +7,7 @@ use crate::grid::solve_grid;
 use crate::rounding::round_out;
 use factor::CELLS;
 use factor::Ending;
-use factor::solve::solve;
+use factor::solve::solve_whole;
 use factor::starts_of;
 use fields::Field;
 use jobs::job::JOB_WORDS;
@@ -26,13 +26,21 @@ ghost use lib.IntN.{pos};
 ghost use lib.Ieee.{nan};
 ghost use lib.ListN.{length, getD, replicate};
 ghost use lib.Seq.{sets};
-ghost use Rattle.jobs.specs.Words.{jobOf, cellsOf, columnsOf};
+ghost use Rattle.jobs.specs.Words.{jobOf, cellsOf, columnsOf, orderOf};
 ghost use Rattle.house.specs.Known.{Known};
 ghost use Rattle.house.specs.Filled.{filled};
+ghost use Rattle.house.specs.Band.{rightOf};
+ghost use Rattle.house.specs.Grid.{gridSolved};
+ghost use Rattle.house.specs.Held.{Narrow};
 ghost use Rattle.house.specs.Proposal.{lineSolved, solvedOf, valueOf, writtenOf, proposedOf, proposeOf};
+
+// The most columns of a grid.
+const COLUMNS: usize = 12;
 
 // How the factoring of a line ends; where it is whole, the values before rounding come in place of the right side.
 fn solve_line(words: &[i64], z: usize, v: &mut [f64; CELLS]) -> Ending
+    requires { ⌜ Known (now words) × (z ≡ orderOf (now words)) × (now v ≡ rightOf (jobOf (now words))) ⌝ }
+    ensures { λ r. ⌜ (r ≡ lineSolved (jobOf (now (words .entry))) .ending) × (now (v .exit) ≡ lineSolved (jobOf (now (words .entry))) .values) ⌝ }
 {
     let n = cells_of(words);
     let a = band(words, n, z);
@@ -40,13 +48,7 @@ fn solve_line(words: &[i64], z: usize, v: &mut [f64; CELLS]) -> Ending
     let mut d = [0.0; CELLS];
     let mut l = [0.0; PLACES];
     let ending = factor_band(a, n, z, &starts, &mut d, &mut l);
-    match ending {
-        Ending::Thin(cell, pivot) => Ending::Thin(cell, pivot),
-        Ending::Whole => {
-            solve(&d, &l, &starts, v, n, z);
-            Ending::Whole
-        }
-    }
+    solve_whole(ending, &d, &l, &starts, v, n, z)
 }
 
 // v rounded out into the box of the cell i.
@@ -76,7 +78,7 @@ fn values_of(words: &[i64], n: usize, v: &[f64; CELLS]) -> [i64; PROPOSAL_WORDS]
 
 fn write_values(words: &[i64], v: &[f64; CELLS], out: &mut [u8]) -> Outcome
     requires { ⌜ Known (now words) ⌝ }
-    ensures { λ r. ⌜ (r ≡ writtenOf (length (now (out .entry))) (jobOf (now (words .entry))) v .outcome) × (now (out .exit) ≡ sets (now (out .entry)) 0 (writtenOf (length (now (out .entry))) (jobOf (now (words .entry))) v .bytes)) ⌝ }
+    ensures { λ r. ⌜ (r ≡ writtenOf (length (now (out .entry))) (jobOf (now (words .entry))) (now (v .entry)) .outcome) × (now (out .exit) ≡ sets (now (out .entry)) 0 (writtenOf (length (now (out .entry))) (jobOf (now (words .entry))) (now (v .entry)) .bytes)) ⌝ }
 {
     let n = cells_of(words);
     let links = links_of(words, n);
@@ -85,38 +87,48 @@ fn write_values(words: &[i64], v: &[f64; CELLS], out: &mut [u8]) -> Outcome
     packs::writing::put(&values[0..count], out)
 }
 
-fn short_line(words: &[i64], z: usize, v: &mut [f64; CELLS]) -> Ending
+// The same of a low order, and a grid of a small reach. A function that is called from one place only is compiled into its caller, with its room on the
+// stack; with these, the two that need room are called from two places, and a line does not pay for a grid's room, nor a grid for a line's.
+fn solve_low_line(words: &[i64], z: usize, v: &mut [f64; CELLS]) -> Ending
+    requires { ⌜ Known (now words) × (z ≡ orderOf (now words)) × (now v ≡ rightOf (jobOf (now words))) ⌝ }
+    ensures { λ r. ⌜ (r ≡ lineSolved (jobOf (now (words .entry))) .ending) × (now (v .exit) ≡ lineSolved (jobOf (now (words .entry))) .values) ⌝ }
 {
     solve_line(words, z, v)
 }
 
-fn narrow_grid(words: &[i64], z: usize, v: &mut [f64; CELLS]) -> Ending
+fn solve_small_grid(words: &[i64], z: usize, v: &mut [f64; CELLS]) -> Ending
+    requires { ⌜ Narrow (now words) z × (now v ≡ rightOf (jobOf (now words))) ⌝ }
+    ensures { λ r. ⌜ (r ≡ gridSolved (jobOf (now (words .entry))) .ending) × (now (v .exit) ≡ gridSolved (jobOf (now (words .entry))) .values) ⌝ }
 {
     solve_grid(words, z, v)
 }
 
+// The values before rounding of any job, in place of its right side. A job that is no grid has one column.
 fn solve_job(words: &[i64], columns: usize, v: &mut [f64; CELLS]) -> Ending
+    requires { ⌜ Known (now words) × (columns ≡ columnsOf (now words)) × (columns ≤ 12) × (now v ≡ rightOf (jobOf (now words))) ⌝ }
+    ensures { λ r. ⌜ (r ≡ solvedOf (jobOf (now (words .entry))) .ending) × (now (v .exit) ≡ solvedOf (jobOf (now (words .entry))) .values) ⌝ }
 {
-    let z = order_of(words);
+    let order = order_of(words);
     if columns == 1 {
-        if z <= 2 {
-            return short_line(words, z, v);
+        if order <= 2 {
+            return solve_low_line(words, order, v);
         }
-        return solve_line(words, z, v);
+        return solve_line(words, order, v);
     }
-    let reach = z * columns;
-    if reach <= 12 {
-        return narrow_grid(words, reach, v);
+    let z = order * columns;
+    if z <= 12 {
+        return solve_small_grid(words, z, v);
     }
-    solve_grid(words, reach, v)
+    solve_grid(words, z, v)
 }
 
 // The proposal for the words of a job that was read.
 pub fn propose_for(words: &[i64], out: &mut [u8]) -> Outcome
     requires { ⌜ Known (now words) ⌝ }
+    ensures { λ r. ⌜ (r ≡ proposedOf (length (now (out .entry))) (jobOf (now (words .entry))) .outcome) × (now (out .exit) ≡ sets (now (out .entry)) 0 (proposedOf (length (now (out .entry))) (jobOf (now (words .entry))) .bytes)) ⌝ }
 {
     let columns = columns_of(words);
-    if 12 < columns {
+    if COLUMNS < columns {
         return Outcome::Refused(20, 0);
     }
     let mut v = [0.0; CELLS];
@@ -128,8 +140,7 @@ pub fn propose_for(words: &[i64], out: &mut [u8]) -> Outcome
     }
 }
 
-// The house proposal for a job pack. A refusal writes nothing; room is tested last. A call takes about 84 KB of stack (84,256 bytes compiled at -O3
-// on aarch64, for a line too), of which a grid's multipliers are 46,080, the job's words 16,736 and the two lists of a grid's band 9,600.
+// The house proposal for a job pack. A refusal writes nothing; room is tested last.
 pub fn propose(job: &[u8], out: &mut [u8]) -> Outcome
     ensures { λ r. ⌜ (r ≡ proposeOf (length (now (out .entry))) (now (job .entry)) .outcome) × (now (out .exit) ≡ sets (now (out .entry)) 0 (proposeOf (length (now (out .entry))) (now (job .entry)) .bytes)) ⌝ }
 {

@@ -74,6 +74,14 @@ starts-more z j made l h i k = go (eqb i j) refl
 pub fewer-rows : {z n m : ℕ} {starts : List ℕ} {l : List Float} → m ≤ n → Placed z n starts l → Placed z m starts l
 fewer-rows {z} {n} {m} h p = record { listed = record { at = λ i k. p .listed .at i (omega arith) }; room = N.le-trans (start-rises z m n h) (p .room) }
 
+-- a list as long has as much room
+pub as-long : {z n : ℕ} {starts : List ℕ} {l m : List Float} → Placed z n starts l → length m ≡ length l → Placed z n starts m
+as-long p e = record { listed = p .listed; room = rw e (p .room) }
+
+-- a row of its own length fits its places
+pub row-fits : {z at k : ℕ} {starts : List ℕ} {l : List Float} (j : ℕ) → Placed z (j + 1) starts l → at ≡ getD starts j 0 → k ≡ j - lowest j z → at + k ≤ length l
+row-fits {z} j p e h = omega (arith, e, p .listed .at j (omega arith), h, start-next z j, p .room)
+
 -- where the row i stands
 module _ {z n : ℕ} {starts : List ℕ} {l : List Float} (p : Placed z n starts l) (i : ℕ) (h : i < n) {at end : ℕ} (ea : at ≡ getD starts i 0) (ee : end ≡ getD starts (i + 1) 0) where
   pub row-starts : at ≡ startOf z i

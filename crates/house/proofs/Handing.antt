@@ -18,8 +18,8 @@ use Rattle.jobs.specs.Words.{jobOf}
 use Rattle.jobs.specs.Packs.{readJob}
 use Rattle.jobs.proofs.Readings.{read-jobs-allowed, read-jobs-laid}
 use Rattle.jobs.proofs.Handed.{scratch-part}
+use Rattle.factor.specs.declared.Ending.{Ending}
 use Rattle.factor.specs.declared.Ending.the-variants.{Whole, Thin}
-use Rattle.house.specs.declared.proposal.Solved.{Solved}
 use Rattle.house.specs.Known.{Known}
 use Rattle.house.specs.Filled.{filled}
 use Rattle.house.specs.Proposal.{solvedOf, valueOf, wordsOf, writtenOf, onEnding, proposedOf, onJobRead, proposeOf}
@@ -42,17 +42,17 @@ pub wide-refused : (room : ℕ) (j : Job) → 12 < j .columns → refused 20 0 �
 unfolding proposedOf
 wide-refused room j h = ap {B = Written} (λ (b : Bool). if b then refused 20 0 else onEnding room j (solvedOf j .values) (solvedOf j .ending)) (sym (lt-ltb 12 (j .columns) h))
 
-module _ (room : ℕ) (j : Job) (few : j .columns ≤ 12) {s : Solved} (e : s ≡ solvedOf j) where
-  case : onEnding room j (s .values) (s .ending) ≡ proposedOf room j
+module _ (room : ℕ) (j : Job) (few : j .columns ≤ 12) {e : Ending} {v : List Float} (h : (e ≡ solvedOf j .ending) × (v ≡ solvedOf j .values)) where
+  case : onEnding room j v e ≡ proposedOf room j
   unfolding proposedOf
-  case = ap {B = Written} (λ (s : Solved). onEnding room j (s .values) (s .ending)) e
-      ∙ ap {B = Written} (λ (b : Bool). if b then refused 20 0 else onEnding room j (solvedOf j .values) (solvedOf j .ending)) (sym (le-ltb 12 (j .columns) few))
+  case = rw (h .0, h .1)
+      (ap {B = Written} (λ (b : Bool). if b then refused 20 0 else onEnding room j (solvedOf j .values) (solvedOf j .ending)) (sym (le-ltb 12 (j .columns) few)))
 
-  pub thin-refused : {cell : ℕ} {x : Float} → s .ending ≡ Thin cell x → refused 10 cell ≡ proposedOf room j
-  thin-refused t = ap {B = Written} (onEnding room j (s .values)) (sym t) ∙ case
+  pub thin-refused : {cell : ℕ} {x : Float} → e ≡ Thin cell x → refused 10 cell ≡ proposedOf room j
+  thin-refused t = ap {B = Written} (onEnding room j v) (sym t) ∙ case
 
-  pub whole-written : s .ending ≡ Whole → writtenOf room j (s .values) ≡ proposedOf room j
-  whole-written t = ap {B = Written} (onEnding room j (s .values)) (sym t) ∙ case
+  pub whole-written : e ≡ Whole → writtenOf room j v ≡ proposedOf room j
+  whole-written t = ap {B = Written} (onEnding room j v) (sym t) ∙ case
 
 -- ---- the words of the proposal
 

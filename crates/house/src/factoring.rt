@@ -10,7 +10,7 @@ use factor::start_at;
 use factor::value_of;
 ghost use mathlib.Core.Path.{_≡_};
 ghost use Prim.Native.Nat.{_+_, _-_, _≤_, _<_};
-ghost use lib.ListN.{take};
+ghost use lib.ListN.{length, take};
 ghost use lib.Seq.{sets};
 ghost use Rattle.factor.specs.Factor.{lowest, startOf, factorStep, factorFrom};
 ghost use Rattle.factor.specs.Places.{Placed};
@@ -57,8 +57,8 @@ pub fn factor_step(
 }
 
 // Row j to its places among the multipliers of all rows.
-fn put_made(lj: &[f64; WIDTH], l: &mut [f64], starts: &[u16; STARTS], j: usize, z: usize)
-    requires { ⌜ (j < 120) × (z ≤ 4) × Placed z (j + 1) (now starts) (now l) ⌝ }
+fn put_made(lj: &[f64], l: &mut [f64], starts: &[u16; STARTS], j: usize, z: usize)
+    requires { ⌜ (j < 120) × (z ≤ 4) × Placed z (j + 1) (now starts) (now l) × (length (now lj) ≡ 4) ⌝ }
     ensures { λ _. ⌜ now (l .exit) ≡ sets (now (l .entry)) (startOf z j) (take (j - lowest j z) (now (lj .entry))) ⌝ }
 {
     let lo = lowest_of(j, z);

@@ -22,11 +22,11 @@ use jobs::words::order_of;
 use jobs::words::second_of;
 use jobs::words::weight_at;
 ghost use mathlib.Core.Path.{_≡_};
-ghost use Prim.Native.Nat.{_+_, _*_, _≤_, _<_};
-ghost use lib.ListN.{replicate};
+ghost use Prim.Native.Nat.{_+_, _-_, _*_, _≤_, _<_};
+ghost use lib.ListN.{length, replicate};
 ghost use lib.Seq.{sets};
 ghost use Rattle.rows.specs.Rows.{IsRow};
-ghost use Rattle.factor.specs.Factor.{startOf, judged, factorStep, factorFrom};
+ghost use Rattle.factor.specs.Factor.{lowest, startOf, noMultipliers, judged, factorStep, factorFrom};
 ghost use Rattle.factor.specs.Places.{Placed};
 ghost use Rattle.jobs.specs.Words.{jobOf, cellsOf, orderOf, acrossOf};
 ghost use Rattle.house.specs.Known.{Known};
@@ -42,8 +42,8 @@ pub const WIDTH: usize = 48;
 pub const PLACES: usize = 4584;
 
 // A at (i, i - t·columns) by t, the diagonal whole.
-fn below_of(words: &[i64], down_row: &[i64; 5], across_row: &[i64; 5], i: usize) -> [f64; 5]
-    requires { ⌜ Known (now words) × (i < cellsOf (now words)) × IsRow (orderOf (now words)) (now down_row) × IsRow (acrossOf (now words)) (now across_row) ⌝ }
+fn below_of(words: &[i64], downs: &[i64; 5], sides: &[i64; 5], i: usize) -> [f64; 5]
+    requires { ⌜ Known (now words) × (i < cellsOf (now words)) × IsRow (orderOf (now words)) (now downs) × IsRow (acrossOf (now words)) (now sides) ⌝ }
     ensures { λ r. ⌜ r ≡ belowOf (jobOf (now (words .entry))) i ⌝ }
 {
     let n = cells_of(words);
@@ -55,22 +55,22 @@ fn below_of(words: &[i64], down_row: &[i64; 5], across_row: &[i64; 5], i: usize)
     let rows = n / columns;
     let row = i / columns;
     let place = i % columns;
-    let squares = squares_at(across_row, columns, across, place, 0);
+    let squares = squares_at(sides, columns, across, place, 0);
     let w = weight_at(words, i);
     let whole = whole_entry(w, second, squares, 0);
-    entries_of(down_row, whole, constant, rows, down, row)
+    entries_of(downs, whole, constant, rows, down, row)
 }
 
 // A at (i, i - o) by o from 1 on.
-fn beside_of(words: &[i64], across_row: &[i64; 5], i: usize) -> [f64; 5]
-    requires { ⌜ Known (now words) × IsRow (acrossOf (now words)) (now across_row) ⌝ }
+fn beside_of(words: &[i64], sides: &[i64; 5], i: usize) -> [f64; 5]
+    requires { ⌜ Known (now words) × IsRow (acrossOf (now words)) (now sides) ⌝ }
     ensures { λ r. ⌜ r ≡ besideOf (jobOf (now (words .entry))) i ⌝ }
 {
     let columns = columns_of(words);
     let across = across_of(words);
     let second = second_of(words);
     let place = i % columns;
-    entries_of(across_row, 0, second, columns, across, place)
+    entries_of(sides, 0, second, columns, across, place)
 }
 
 // The entry at an offset o that is t whole rows and `past` cells: 0 where neither of the two has it.
@@ -115,78 +115,79 @@ fn spread(
 // Row i of the band, into a list of zeros.
 fn grid_row(
     words: &[i64],
-    down_row: &[i64; 5],
-    across_row: &[i64; 5],
+    downs: &[i64; 5],
+    sides: &[i64; 5],
     z: usize,
     i: usize,
     made: &mut [f64; ENTRIES],
 )
-    requires { ⌜ Narrow (now words) z × (i < cellsOf (now words)) × IsRow (orderOf (now words)) (now down_row) × IsRow (acrossOf (now words)) (now across_row) × (now made ≡ replicate 49 zero64) ⌝ }
+    requires { ⌜ Narrow (now words) z × (i < cellsOf (now words)) × IsRow (orderOf (now words)) (now downs) × IsRow (acrossOf (now words)) (now sides) × (now made ≡ replicate 49 zero64) ⌝ }
     ensures { λ _. ⌜ now (made .exit) ≡ gridRows (jobOf (now (words .entry))) i ⌝ }
 {
     let columns = columns_of(words);
-    let below = below_of(words, down_row, across_row, i);
-    let beside = beside_of(words, across_row, i);
+    let below = below_of(words, downs, sides, i);
+    let beside = beside_of(words, sides, i);
     spread(columns, z, &below, &beside, made);
 }
 
-// Row j of the factor to its places among the multipliers, from row j of the band, and its pivot, accepted or thin.
+// Row j of the factor, made in a list of zeros and put to its places among the multipliers, and its pivot, accepted or thin.
 fn factor_into(
-    entries: &[f64; ENTRIES],
+    entries: &[f64],
     d: &[f64; CELLS],
     l: &mut [f64],
     starts: &[u16; STARTS],
     j: usize,
     z: usize,
+    made: &mut [f64],
 ) -> Pivot
-    requires { ⌜ (j < 120) × (z ≤ 48) × Placed z (j + 1) (now starts) (now l) ⌝ }
-    ensures { λ r. ⌜ (r ≡ judged (factorStep (now (entries .entry)) (now (d .entry)) (now (l .entry)) z j .pivot)) × (now (l .exit) ≡ sets (now (l .entry)) (startOf z j) (factorStep (now (entries .entry)) (now (d .entry)) (now (l .entry)) z j .multipliers)) ⌝ }
+    requires { ⌜ (j < 120) × (z < length (now entries)) × Placed z (j + 1) (now starts) (now l) × (now made ≡ noMultipliers (j - lowest j z)) ⌝ }
+    ensures { λ r. ⌜ (r ≡ judged (factorStep (now (entries .entry)) (now (d .entry)) (now (l .entry)) z j .pivot)) × (now (l .exit) ≡ sets (now (l .entry)) (startOf z j) (factorStep (now (entries .entry)) (now (d .entry)) (now (l .entry)) z j .multipliers)) × (now (made .exit) ≡ factorStep (now (entries .entry)) (now (d .entry)) (now (l .entry)) z j .multipliers) ⌝ }
 {
-    let mut made = [0.0; WIDTH];
-    let lo = lowest_of(j, z);
-    let count = j - lo;
-    let pivot = factor_row(entries, d, l, starts, j, z, &mut made[0..count]);
+    let pivot = factor_row(entries, d, l, starts, j, z, made);
     let at = start_at(starts, j);
-    put_row(&made[0..count], l, at);
+    put_row(made, l, at);
     pivot
 }
 
 // One step of the factoring of a grid's band.
 fn grid_step(
     words: &[i64],
-    down_row: &[i64; 5],
-    across_row: &[i64; 5],
+    downs: &[i64; 5],
+    sides: &[i64; 5],
     d: &[f64; CELLS],
     l: &mut [f64],
     starts: &[u16; STARTS],
     j: usize,
     z: usize,
 ) -> Pivot
-    requires { ⌜ Narrow (now words) z × (j < cellsOf (now words)) × IsRow (orderOf (now words)) (now down_row) × IsRow (acrossOf (now words)) (now across_row) × Placed z (j + 1) (now starts) (now l) ⌝ }
+    requires { ⌜ Narrow (now words) z × (j < cellsOf (now words)) × IsRow (orderOf (now words)) (now downs) × IsRow (acrossOf (now words)) (now sides) × Placed z (j + 1) (now starts) (now l) ⌝ }
     ensures { λ r. ⌜ (r ≡ judged (factorStep (gridRows (jobOf (now (words .entry))) j) (now (d .entry)) (now (l .entry)) z j .pivot)) × (now (l .exit) ≡ sets (now (l .entry)) (startOf z j) (factorStep (gridRows (jobOf (now (words .entry))) j) (now (d .entry)) (now (l .entry)) z j .multipliers)) ⌝ }
 {
     let mut entries = [0.0; ENTRIES];
-    grid_row(words, down_row, across_row, z, j, &mut entries);
-    factor_into(&entries, d, l, starts, j, z)
+    grid_row(words, downs, sides, z, j, &mut entries);
+    let mut made = [0.0; WIDTH];
+    let lo = lowest_of(j, z);
+    let count = j - lo;
+    factor_into(&entries, d, l, starts, j, z, &mut made[0..count])
 }
 
 // The factor of a grid's band, into lent pivots and multipliers.
 fn factor_grid(
     words: &[i64],
-    down_row: &[i64; 5],
-    across_row: &[i64; 5],
+    downs: &[i64; 5],
+    sides: &[i64; 5],
     n: usize,
     z: usize,
     starts: &[u16; STARTS],
     d: &mut [f64; CELLS],
     l: &mut [f64],
 ) -> Ending
-    requires { ⌜ Narrow (now words) z × (n ≡ cellsOf (now words)) × IsRow (orderOf (now words)) (now down_row) × IsRow (acrossOf (now words)) (now across_row) × Placed z n (now starts) (now l) ⌝ }
+    requires { ⌜ Narrow (now words) z × (n ≡ cellsOf (now words)) × IsRow (orderOf (now words)) (now downs) × IsRow (acrossOf (now words)) (now sides) × Placed z n (now starts) (now l) ⌝ }
     ensures { λ r. ⌜ (r ≡ factorFrom (gridRows (jobOf (now (words .entry)))) z n 0 (now (d .entry)) (now (l .entry)) .ending) × (now (d .exit) ≡ factorFrom (gridRows (jobOf (now (words .entry)))) z n 0 (now (d .entry)) (now (l .entry)) .pivots) × (now (l .exit) ≡ factorFrom (gridRows (jobOf (now (words .entry)))) z n 0 (now (d .entry)) (now (l .entry)) .multipliers) ⌝ }
 {
     let mut j = 0;
     while j < n {
-        let pivot = grid_step(words, down_row, across_row, d, l, starts, j, z);
+        let pivot = grid_step(words, downs, sides, d, l, starts, j, z);
         let x = value_of(pivot);
         d[j] = x;
         match pivot {
@@ -206,15 +207,15 @@ pub fn solve_grid(words: &[i64], z: usize, v: &mut [f64; CELLS]) -> Ending
     ensures { λ r. ⌜ (r ≡ gridSolved (jobOf (now (words .entry))) .ending) × (now (v .exit) ≡ gridSolved (jobOf (now (words .entry))) .values) ⌝ }
 {
     let n = cells_of(words);
-    let down_row = rows::row_of(order_of(words));
-    let across_row = rows::row_of(across_of(words));
+    let downs = rows::row_of(order_of(words));
+    let sides = rows::row_of(across_of(words));
     let starts = starts_of(n, z);
     let mut d = [0.0; CELLS];
     let mut l = [0.0; PLACES];
     let ending = factor_grid(
         words,
-        &down_row,
-        &across_row,
+        &downs,
+        &sides,
         n,
         z,
         &starts,

@@ -1,66 +1,72 @@
--- The numbers are those of the job.
-use mathlib.Core.Path.{_≡_, ap₂, _∙_}
-use Prim.Native.Nat.{_/_}
-use Rattle.jobs.specs.Words.{rowsOf, jobOf}
-use Rattle.house.specs.Grid.{gridOf, gridSolved}
-use Rattle.house.proofs.Told.{constant-is}
-use Rattle.house.proofs.Shaped.{columns-some, rows-are, second-is, narrow}
 use borrow.Author.Needs.{needs}
 use Rattle.house.proofs.grid.solve_grid.Statement.{statement}
 use Rattle.house.proofs.grid.solve_grid.Tie as tie
+use Rattle.house.proofs.grid.solve_grid.Reads as reads
+use Rattle.house.proofs.grid.solve_grid.Lts as lts
+use Rattle.factor.proofs.solve.solve_whole.Reads as solve-whole-reads
+use Rattle.factor.proofs.starts_of.Reads as starts-of-reads
+use Rattle.house.proofs.grid.factor_grid.Reads as factor-grid-reads
+use Rattle.jobs.proofs.words.across_of.Reads as across-of-reads
+use Rattle.jobs.proofs.words.cells_of.Reads as cells-of-reads
+use Rattle.jobs.proofs.words.order_of.Reads as order-of-reads
+use Rattle.rows.proofs.row_of.Reads as row-of-reads
 
+-- src/grid.rt:209:9
 cells-of-requires : tie.Need-cells-of-requires
 cells-of-requires c κs = search needs
 
-columns-of-requires : tie.Need-columns-of-requires
-columns-of-requires c κs = search needs
-
-div-rows : tie.Need-div-rows
-div-rows c = let some = columns-some (c .before .before .pre .0) in search needs
-
+-- src/grid.rt:210:30
 order-of-requires : tie.Need-order-of-requires
 order-of-requires c κs = search needs
 
+-- src/grid.rt:210:17
+row-of-requires : tie.Need-row-of-requires
+row-of-requires c κs = search needs
+
+-- src/grid.rt:211:30
 across-of-requires : tie.Need-across-of-requires
 across-of-requires c κs = search needs
 
-constant-of-requires : tie.Need-constant-of-requires
-constant-of-requires c κs = search needs
+-- src/grid.rt:211:17
+row-of-requires-2 : tie.Need-row-of-requires-2
+row-of-requires-2 c κs = search needs
 
-second-of-requires : tie.Need-second-of-requires
-second-of-requires c κs = search needs
+-- src/grid.rt:212:18
+starts-of-requires : tie.Need-starts-of-requires
+starts-of-requires c κs = ?
 
-solve-narrow-requires : tie.Need-solve-narrow-requires
-solve-narrow-requires c κs =
-    let s = c .before .before .before .before .before .before in
-    let k = s .pre .0 in
-    rw (c .before .before .before .before .before .cells-of .ensures, c .before .before .before .before .columns-of .ensures, rows-are k, c .before .before .before .order-of .ensures, c .before .before .across-of .ensures, constant-is k (c .before .constant-of .ensures), second-is k (c .second-of .ensures))
-    (narrow k (s .pre .1), k, k .allowed .cells-are)
+-- src/grid.rt:223:9
+slice-aggregate-factor-grid : tie.Need-slice-aggregate-factor-grid
+slice-aggregate-factor-grid c = search needs
 
+-- src/grid.rt:215:9
+factor-grid-requires : tie.Need-factor-grid-requires
+factor-grid-requires c κs = ?
+
+-- src/grid.rt:225:29
+slice-aggregate-solve-whole : tie.Need-slice-aggregate-solve-whole
+slice-aggregate-solve-whole c = search needs
+
+-- src/grid.rt:225:5
+solve-whole-requires : tie.Need-solve-whole-requires
+solve-whole-requires c κs = ?
+
+-- src/grid.rt:205:1
 returns : tie.Need-returns
-returns c =
-    let s = c .before .before .before .before .before .before .before in
-    let k = s .pre .0 in
-    let j = jobOf (s .args .words .now) in
-    let columns = c .before .before .before .before .before .columns-of in
-    let rows : c .before .before .before .before .before .before .cells-of .result / columns .result ≡ rowsOf (s .args .words .now) =
-    ap₂ _/_ (c .before .before .before .before .before .before .cells-of .ensures) (columns .ensures) ∙ rows-are k in
-    let down = c .before .before .before .before .order-of .ensures in
-    let across = c .before .before .before .across-of .ensures in
-    let constant = constant-is k (c .before .before .constant-of .ensures) in
-    let second = second-is k (c .before .second-of .ensures) in
-    c .solve-narrow .ensures ∙ (λ i. gridSolved (gridOf (rows i) (columns .ensures i) (down i) (across i) (constant i) (second i) (j .weight) (j .crude)))
+returns c = ?
 
 pub solve-grid-spec : {M : Type 1} → statement M
 solve-grid-spec =
     tie.close
     (tie.spec
     cells-of-requires
-    columns-of-requires
-    div-rows
     order-of-requires
+    row-of-requires
     across-of-requires
-    constant-of-requires
-    second-of-requires
-    solve-narrow-requires
+    row-of-requires-2
+    starts-of-requires
+    slice-aggregate-factor-grid
+    factor-grid-requires
+    slice-aggregate-solve-whole
+    solve-whole-requires
     returns)

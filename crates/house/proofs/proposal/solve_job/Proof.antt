@@ -1,27 +1,65 @@
--- One column is a line's; a grid has more.
-use mathlib.Core.Path.{sym, _∙_}
-use Rattle.jobs.specs.Words.{jobOf}
-use Rattle.house.proofs.Shaped.{one-column, more-columns}
-use Rattle.house.proofs.Solving.{solved-line, solved-grid}
 use borrow.Author.Needs.{needs}
 use Rattle.house.proofs.proposal.solve_job.Statement.{statement}
 use Rattle.house.proofs.proposal.solve_job.Tie as tie
+use Rattle.house.proofs.proposal.solve_job.Reads as reads
+use Rattle.house.proofs.proposal.solve_job.Lts as lts
+use Rattle.house.proofs.grid.solve_grid.Reads as solve-grid-reads
+use Rattle.house.proofs.proposal.solve_line.Reads as solve-line-reads
+use Rattle.house.proofs.proposal.solve_low_line.Reads as solve-low-line-reads
+use Rattle.house.proofs.proposal.solve_small_grid.Reads as solve-small-grid-reads
+use Rattle.jobs.proofs.words.order_of.Reads as order-of-reads
 
+-- src/proposal.rt:111:9
+order-of-requires : tie.Need-order-of-requires
+order-of-requires c κs = search needs
+
+-- src/proposal.rt:114:13
+solve-low-line-requires : tie.Need-solve-low-line-requires
+solve-low-line-requires c κs = search needs
+
+-- src/proposal.rt:114:13
+returns : tie.Need-returns
+returns c = ?
+
+-- src/proposal.rt:116:9
 solve-line-requires : tie.Need-solve-line-requires
 solve-line-requires c κs = search needs
 
-returns : tie.Need-returns
-returns c =
-    let s = c .before .before in
-    solved-line (jobOf (s .args .words .now)) (one-column (s .pre .0) (sym (s .pre .1) ∙ c .before .if1 .taken)) (c .solve-line .ensures)
-
-solve-grid-requires : tie.Need-solve-grid-requires
-solve-grid-requires c κs = search needs
-
+-- src/proposal.rt:116:9
 returns-2 : tie.Need-returns-2
-returns-2 c =
-    let s = c .before .before in
-    solved-grid (jobOf (s .args .words .now)) (more-columns (s .pre .0) (λ e. c .before .if1 .left (s .pre .1 ∙ e))) (c .solve-grid .ensures)
+returns-2 c = ?
+
+-- src/proposal.rt:118:13
+mul-z : tie.Need-mul-z
+mul-z c = ?
+
+-- src/proposal.rt:120:9
+solve-small-grid-requires : tie.Need-solve-small-grid-requires
+solve-small-grid-requires c κs = ?
+
+-- src/proposal.rt:120:9
+returns-3 : tie.Need-returns-3
+returns-3 c = ?
+
+-- src/proposal.rt:122:5
+solve-grid-requires : tie.Need-solve-grid-requires
+solve-grid-requires c κs = ?
+
+-- src/proposal.rt:107:1
+returns-4 : tie.Need-returns-4
+returns-4 c = ?
 
 pub solve-job-spec : {M : Type 1} → statement M
-solve-job-spec = tie.close (tie.spec solve-line-requires returns solve-grid-requires returns-2)
+solve-job-spec =
+    tie.close
+    (tie.spec
+    order-of-requires
+    solve-low-line-requires
+    returns
+    solve-line-requires
+    returns-2
+    mul-z
+    solve-small-grid-requires
+    returns-3
+    solve-grid-requires
+    returns-4)

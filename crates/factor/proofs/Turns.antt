@@ -9,7 +9,7 @@ use native.Mathlib.Numerals.{add-one}
 use lib.ListN.{length, getD, set, take, drop, length-set, length-replicate, length-take, length-drop}
 use lib.Dec.{eqb, ltb}
 use borrow.Author.Tests.{eqb-true, eqb-false, ltb-true, ltb-false}
-use lib.Seq.{sets, getD-set-same, getD-set-other, getD-take, getD-drop, drop-cons, drop-length}
+use lib.Seq.{sets, length-sets, getD-set-same, getD-set-other, getD-take, getD-drop, drop-cons, drop-length}
 use lib.IntN.{pos}
 use lib.Ieee.{Float, fin, binary64, sub, div, lt, ofBits, nan}
 use Rattle.factor.specs.declared.Pivot.{Pivot}
@@ -227,6 +227,20 @@ module _ (band : Band) (z j : ℕ) (d l : List Float) (n : ℕ) (h : j < n) wher
 pub factor-done : (band : Band) (z j n : ℕ) (d l : List Float) → n ≤ j → factorFrom band z (n - j) j d l ≡ record { ending = Whole; pivots = d; multipliers = l }
 unfolding factorFrom
 factor-done band z j n d l h = ap {B = Factor} (λ (k : ℕ). factorFrom band z k j d l) (none j n h)
+
+-- the multipliers keep their places
+pub factor-length : (band : Band) (z n j : ℕ) (d l : List Float) → length (factorFrom band z n j d l .multipliers) ≡ length l
+unfolding factorFrom
+factor-length band z zero j d l = refl
+factor-length band z (suc n) j d l =
+    let step = factorStep (band j) d l z j in
+    let d1 = set d j (step .pivot) in
+    let l1 = sets l (startOf z j) (step .multipliers) in
+    go (judged (step .pivot)) d1 l1 (factorFrom band z n (j + 1) d1 l1) (factor-length band z n (j + 1) d1 l1) ∙ length-sets l (startOf z j) (step .multipliers)
+  where
+    go : (p : Pivot) (d l : List Float) (rest : Factor) → length (rest .multipliers) ≡ length l → length (onPivot p j d l rest .multipliers) ≡ length l
+    go (Accepted x) d l rest h = h
+    go (ThinPivot x) d l rest h = refl
 
 -- the parts of an equal factor are equal
 pub parts : {e : Ending} {d l : List Float} {f : Factor} → record { ending = e; pivots = d; multipliers = l } ≡ f → (e ≡ f .ending) × (d ≡ f .pivots) × (l ≡ f .multipliers)

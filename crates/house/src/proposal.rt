@@ -11,7 +11,6 @@ use factor::solve::solve_whole;
 use factor::starts_of;
 use fields::Field;
 use jobs::job::JOB_WORDS;
-use jobs::proposal::PROPOSAL_WORDS;
 use jobs::words::ceiling_at;
 use jobs::words::cells_of;
 use jobs::words::columns_of;
@@ -61,12 +60,12 @@ fn value_at(words: &[i64], i: usize, v: f64) -> i64
     round_out(v, lo, hi) as i64
 }
 
-// The words of a proposal: the values rounded out, and zeros after them.
-fn values_of(words: &[i64], n: usize, v: &[f64; CELLS]) -> [i64; PROPOSAL_WORDS]
+// The values of a proposal, rounded out.
+fn values_of(words: &[i64], n: usize, v: &[f64; CELLS]) -> [i64; CELLS]
     requires { ⌜ Known (now words) × (n ≡ cellsOf (now words)) ⌝ }
-    ensures { λ r. ⌜ r ≡ filled (λ i. valueOf (jobOf (now (words .entry))) i (getD (now (v .entry)) i nan)) n 0 (replicate 280 (pos 0)) ⌝ }
+    ensures { λ r. ⌜ r ≡ filled (λ i. valueOf (jobOf (now (words .entry))) i (getD (now (v .entry)) i nan)) n 0 (replicate 120 (pos 0)) ⌝ }
 {
-    let mut made = [0i64; PROPOSAL_WORDS];
+    let mut made = [0i64; CELLS];
     let mut i = 0;
     while i < n {
         let x = v[i];
@@ -76,6 +75,7 @@ fn values_of(words: &[i64], n: usize, v: &[f64; CELLS]) -> [i64; PROPOSAL_WORDS]
     made
 }
 
+// The multipliers are zeros after the values, which take no words of their own.
 fn write_values(words: &[i64], v: &[f64; CELLS], out: &mut [u8]) -> Outcome
     requires { ⌜ Known (now words) ⌝ }
     ensures { λ r. ⌜ (r ≡ writtenOf (length (now (out .entry))) (jobOf (now (words .entry))) (now (v .entry)) .outcome) × (now (out .exit) ≡ sets (now (out .entry)) 0 (writtenOf (length (now (out .entry))) (jobOf (now (words .entry))) (now (v .entry)) .bytes)) ⌝ }
@@ -83,8 +83,7 @@ fn write_values(words: &[i64], v: &[f64; CELLS], out: &mut [u8]) -> Outcome
     let n = cells_of(words);
     let links = links_of(words, n);
     let values = values_of(words, n, v);
-    let count = n + links;
-    packs::writing::put(&values[0..count], out)
+    packs::writing::put_padded(&values[0..n], links, out)
 }
 
 // The same of a low order, and a grid of a small reach. A function that is called from one place only is compiled into its caller, with its room on the

@@ -69,7 +69,7 @@ returns c =
     let a = s .args in
     let step = c .before .before .before .before .before .before .before .before .before .before .factor-step .ensures in
     let told = line-told (rowsOf (a .t1)) (head .loop .d) (head .loop .l) (a .z) (head .loop .j) (s .pre .1) step in
-    parts (sym (answer-thin (rowsOf (a .t1)) (a .z) (head .loop .j) (head .loop .d) (head .loop .l) (a .n) (omega arith) (told .0) (told .1) (c .before .before .before .before .before .put-made .ensures ∙ told .2) (c .before .pivot .given .1)) ∙ head .loop .inv .2)
+    parts (sym (answer-thin (rowsOf (a .t1)) (a .z) (head .loop .j) (head .loop .d) (head .loop .l) (a .n) (c .before .before .before .before .before .before .before .before .before .before .before .before .before .before .loop-test .taken) (told .0) (told .1) (c .before .before .before .before .before .put-made .ensures ∙ told .2) (c .before .pivot .given .1)) ∙ head .loop .inv .2)
 
 enum-told : tie.Need-enum-told Inv-loop μ-loop
 enum-told c = search needs
@@ -89,9 +89,9 @@ loop-again c =
     let step = c .before .before .before .before .before .before .before .before .before .factor-step .ensures in
     let put = c .before .before .before .before .put-made .ensures in
     let told = line-told (rowsOf (a .t1)) (head .loop .d) (head .loop .l) (a .z) j (s .pre .1) step in (
-      omega arith,
+      omega (arith, c .before .before .before .before .before .before .before .before .before .before .before .before .before .loop-test .taken),
       ap length put ∙ length-sets (head .loop .l) (startOf (a .z) j) (take (j - lowest j (a .z)) (c .before .before .before .before .before .before .before .before .before .factor-step .result .row .multipliers)) ∙ head .loop .inv .1,
-      sym (answer-more (rowsOf (a .t1)) (a .z) j (head .loop .d) (head .loop .l) (a .n) (omega arith) (told .0) (told .1) (put ∙ told .2) (c .enum-told .given .1)) ∙ head .loop .inv .2,
+      sym (answer-more (rowsOf (a .t1)) (a .z) j (head .loop .d) (head .loop .l) (a .n) (c .before .before .before .before .before .before .before .before .before .before .before .before .before .loop-test .taken) (told .0) (told .1) (put ∙ told .2) (c .enum-told .given .1)) ∙ head .loop .inv .2,
     )
 
 same-length-2 : tie.Need-same-length-2 Inv-loop μ-loop

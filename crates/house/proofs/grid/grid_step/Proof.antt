@@ -1,5 +1,5 @@
 -- Row j of the band, and the step that it gives.
-use mathlib.Core.Path.{_≡_, refl, ap, _∙_}
+use mathlib.Core.Path.{refl, sym, ap}
 use Prim.Native.Nat.{ℕ, _-_}
 use native.Mathlib.Omega.{arith}
 use mathlib.Core.List.{List}
@@ -26,7 +26,9 @@ sub-count : tie.Need-sub-count
 sub-count c = search needs
 
 slice-aggregate-factor-into : tie.Need-slice-aggregate-factor-into
-slice-aggregate-factor-into c = search needs
+slice-aggregate-factor-into c =
+    let s = c .before .before .before .before .before in
+    sym (row-length (jobOf (s .args .words .now)) (s .args .j) (c .before .before .grid-row .ensures))
 
 sub-factor-into : tie.Need-sub-factor-into
 sub-factor-into c = search needs

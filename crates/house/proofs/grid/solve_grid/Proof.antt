@@ -1,59 +1,71 @@
+-- The factor is that of the grid, and its ending picks the case.
+use mathlib.Core.Path.{_≡_, refl, sym, ap, _∙_}
+use native.Mathlib.Omega.{arith}
+use lib.Ieee.{ofBits}
+use lib.ListN.{length}
+use Rattle.jobs.specs.Words.{jobOf}
+use Rattle.factor.proofs.Turns.{factor-length}
+use Rattle.house.specs.Grid.{gridRows}
+use Rattle.house.proofs.Told.{cells-few, order-few}
+use Rattle.house.proofs.Places.{reach-few}
+use Rattle.house.proofs.Solving.{grid-holds, grid-places}
 use borrow.Author.Needs.{needs}
 use Rattle.house.proofs.grid.solve_grid.Statement.{statement}
 use Rattle.house.proofs.grid.solve_grid.Tie as tie
-use Rattle.house.proofs.grid.solve_grid.Reads as reads
-use Rattle.house.proofs.grid.solve_grid.Lts as lts
-use Rattle.factor.proofs.solve.solve_whole.Reads as solve-whole-reads
-use Rattle.factor.proofs.starts_of.Reads as starts-of-reads
-use Rattle.house.proofs.grid.factor_grid.Reads as factor-grid-reads
-use Rattle.jobs.proofs.words.across_of.Reads as across-of-reads
-use Rattle.jobs.proofs.words.cells_of.Reads as cells-of-reads
-use Rattle.jobs.proofs.words.order_of.Reads as order-of-reads
-use Rattle.rows.proofs.row_of.Reads as row-of-reads
 
--- src/grid.rt:209:9
 cells-of-requires : tie.Need-cells-of-requires
-cells-of-requires c κs = search needs
+cells-of-requires c κs = let k = c .pre .0 .known in search needs
 
--- src/grid.rt:210:30
 order-of-requires : tie.Need-order-of-requires
-order-of-requires c κs = search needs
+order-of-requires c κs = let k = c .before .pre .0 .known in search needs
 
--- src/grid.rt:210:17
 row-of-requires : tie.Need-row-of-requires
-row-of-requires c κs = search needs
+row-of-requires c κs = omega (arith, c .order-of .ensures, order-few (c .before .before .pre .0 .known))
 
--- src/grid.rt:211:30
 across-of-requires : tie.Need-across-of-requires
-across-of-requires c κs = search needs
+across-of-requires c κs = let k = c .before .before .before .pre .0 .known in search needs
 
--- src/grid.rt:211:17
 row-of-requires-2 : tie.Need-row-of-requires-2
-row-of-requires-2 c κs = search needs
+row-of-requires-2 c κs = omega (arith, c .across-of .ensures, c .before .before .before .before .pre .0 .known .allowed .across-few)
 
--- src/grid.rt:212:18
 starts-of-requires : tie.Need-starts-of-requires
-starts-of-requires c κs = ?
+starts-of-requires c κs =
+    let s = c .before .before .before .before .before in
+    let k = s .pre .0 .known in
+    (omega (arith, c .before .before .before .before .cells-of .ensures, cells-few k), omega (arith, s .pre .0 .reach-is, reach-few k (s .pre .0 .columns-few)))
 
--- src/grid.rt:223:9
 slice-aggregate-factor-grid : tie.Need-slice-aggregate-factor-grid
 slice-aggregate-factor-grid c = search needs
 
--- src/grid.rt:215:9
 factor-grid-requires : tie.Need-factor-grid-requires
-factor-grid-requires c κs = ?
+factor-grid-requires c κs =
+    let s = c .before .before .before .before .before .before .before .before .before .before .before in
+    let k = s .pre .0 .known in
+    let n = c .before .before .before .before .before .before .before .before .before .before .cells-of .ensures in
+    let few = reach-few k (s .pre .0 .columns-few) in
+    (s .pre .0, n, rw (← c .before .before .before .before .before .before .before .before .before .order-of .ensures) (c .before .before .before .before .before .before .before .before .row-of .ensures), rw (← c .before .before .before .before .before .before .before .across-of .ensures) (c .before .before .before .before .before .before .row-of2 .ensures),
+      grid-places (c .before .before .before .before .before .starts-of .ensures) (omega (arith, n, cells-few k)) (omega (arith, s .pre .0 .reach-is, few)) refl)
 
--- src/grid.rt:225:29
 slice-aggregate-solve-whole : tie.Need-slice-aggregate-solve-whole
 slice-aggregate-solve-whole c = search needs
 
--- src/grid.rt:225:5
 solve-whole-requires : tie.Need-solve-whole-requires
-solve-whole-requires c κs = ?
+solve-whole-requires c κs =
+    let s = c .before .before .before .before .before .before .before .before .before .before .before .before .before .before .before .before .before in
+    let k = s .pre .0 .known in
+    let n = c .before .before .before .before .before .before .before .before .before .before .before .before .before .before .before .before .cells-of .ensures in
+    let few = reach-few k (s .pre .0 .columns-few) in
+    let made = c .before .before .before .before .before .factor-grid .ensures .2 in
+    (omega (arith, n, cells-few k), omega (arith, s .pre .0 .reach-is, few),
+      grid-places (c .before .before .before .before .before .before .before .before .before .before .before .starts-of .ensures) (omega (arith, n, cells-few k)) (omega (arith, s .pre .0 .reach-is, few))
+      (ap length made ∙ factor-length (gridRows (jobOf (s .args .words .now))) (s .args .z) (c .before .before .before .before .before .before .before .before .before .before .before .before .before .before .before .before .cells-of .result) 0 _ _))
 
--- src/grid.rt:205:1
 returns : tie.Need-returns
-returns c = ?
+unfolding ofBits
+returns c =
+    let s = c .before .before .before .before .before .before .before .before .before .before .before .before .before .before .before .before .before .before in
+    let j = jobOf (s .args .words .now) in
+    grid-holds j (c .before .before .before .before .before .before .before .before .before .before .before .before .before .before .before .before .before .cells-of .ensures) (s .pre .0 .reach-is) (s .pre .1) (c .before .before .before .before .before .before .factor-grid .ensures) (c .solve-whole .ensures)
 
 pub solve-grid-spec : {M : Type 1} → statement M
 solve-grid-spec =

@@ -1,52 +1,56 @@
+-- The ending of the factoring picks the case.
+use mathlib.Core.Path.{refl}
+use Prim.Native.Nat.{_≤_}
+use native.Mathlib.Omega.{arith}
+use denote.Ref.{now}
+use lib.Ieee.{ofBits}
+use lib.ListN.{length}
+use Rattle.jobs.specs.Words.{columnsOf, jobOf}
+use Rattle.house.proofs.Handing.{wide-refused, thin-refused, whole-written}
 use borrow.Author.Needs.{needs}
 use Rattle.house.proofs.proposal.propose_for.Statement.{statement}
 use Rattle.house.proofs.proposal.propose_for.Tie as tie
-use Rattle.house.proofs.proposal.propose_for.Reads as reads
-use Rattle.house.proofs.proposal.propose_for.Lts as lts
-use Rattle.house.proofs.band.right.Reads as right-reads
-use Rattle.house.proofs.proposal.solve_job.Reads as solve-job-reads
-use Rattle.house.proofs.proposal.write_values.Reads as write-values-reads
-use Rattle.jobs.proofs.words.columns_of.Reads as columns-of-reads
 
--- src/proposal.rt:130:9
 columns-of-requires : tie.Need-columns-of-requires
 columns-of-requires c κs = search needs
 
--- src/proposal.rt:132:9
 returns : tie.Need-returns
-returns c = ?
+returns c =
+    let s = c .before .before .before in
+    rw (← wide-refused (length (now (s .args .out))) (jobOf (s .args .words .now)) (omega (arith, c .if1 .taken, c .before .columns-of .ensures))) (refl, refl)
 
--- src/proposal.rt:135:5
 right-requires : tie.Need-right-requires
-right-requires c κs = ?
+unfolding ofBits
+right-requires c κs = (c .before .before .before .before .pre, refl)
 
--- src/proposal.rt:136:9
 solve-job-requires : tie.Need-solve-job-requires
-solve-job-requires c κs = search needs
+solve-job-requires c κs =
+    let s = c .before .before .before .before .before .before in
+    (s .pre, c .before .before .before .before .columns-of .ensures, omega (arith, c .before .before .before .if1 .left), c .before .right .ensures)
 
--- src/proposal.rt:138:22
 enum-known-ending : tie.Need-enum-known-ending
 enum-known-ending c = search needs
 
--- src/proposal.rt:139:46
 enum-told : tie.Need-enum-told
 enum-told c = search needs
 
--- src/proposal.rt:139:26
 write-values-requires : tie.Need-write-values-requires
 write-values-requires c κs = search needs
 
--- src/proposal.rt:126:1
 returns-2 : tie.Need-returns-2
-returns-2 c = ?
+returns-2 c =
+    let s = c .before .before .before .before .before .before .before .before .before .before in
+    let few : columnsOf (s .args .words .now) ≤ 12 = omega (arith, c .before .before .before .before .before .before .before .if1 .left, c .before .before .before .before .before .before .before .before .columns-of .ensures) in
+    rw (← thin-refused (length (now (s .args .out))) (jobOf (s .args .words .now)) few (c .before .before .before .solve-job .ensures) (c .before .ending .given .1)) (refl, refl)
 
--- src/proposal.rt:126:1
 same-length : tie.Need-same-length
 same-length c = search needs
 
--- src/proposal.rt:126:1
 returns-3 : tie.Need-returns-3
-returns-3 c = ?
+returns-3 c =
+    let s = c .before .before .before .before .before .before .before .before .before .before .before .before .before .before in
+    let few : columnsOf (s .args .words .now) ≤ 12 = omega (arith, c .before .before .before .before .before .before .before .before .before .before .before .if1 .left, c .before .before .before .before .before .before .before .before .before .before .before .before .columns-of .ensures) in
+    rw (← whole-written (length (now (s .args .out))) (jobOf (s .args .words .now)) few (c .before .before .before .before .before .before .before .solve-job .ensures) (c .before .before .before .before .before .enum-told .given .1)) (c .before .before .write-values .ensures)
 
 pub propose-for-spec : {M : Type 1} → statement M
 propose-for-spec =

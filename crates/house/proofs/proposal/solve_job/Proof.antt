@@ -1,53 +1,62 @@
+-- One column is a line's; a grid has more.
+use mathlib.Core.Path.{_≡_, sym, ap₂, _∙_}
+use Prim.Native.Nat.{_*_, _≤_}
+use native.Mathlib.Omega.{arith}
+use native.Mathlib.Nat as N
+use Rattle.jobs.specs.Words.{jobOf}
+use Rattle.house.specs.Grid.{reach}
+use Rattle.house.proofs.Told.{order-few}
+use Rattle.house.proofs.Shaped.{one-column, more-columns}
+use Rattle.house.proofs.Solving.{solved-line, solved-grid}
 use borrow.Author.Needs.{needs}
 use Rattle.house.proofs.proposal.solve_job.Statement.{statement}
 use Rattle.house.proofs.proposal.solve_job.Tie as tie
-use Rattle.house.proofs.proposal.solve_job.Reads as reads
-use Rattle.house.proofs.proposal.solve_job.Lts as lts
-use Rattle.house.proofs.grid.solve_grid.Reads as solve-grid-reads
-use Rattle.house.proofs.proposal.solve_line.Reads as solve-line-reads
-use Rattle.house.proofs.proposal.solve_low_line.Reads as solve-low-line-reads
-use Rattle.house.proofs.proposal.solve_small_grid.Reads as solve-small-grid-reads
-use Rattle.jobs.proofs.words.order_of.Reads as order-of-reads
 
--- src/proposal.rt:111:9
 order-of-requires : tie.Need-order-of-requires
 order-of-requires c κs = search needs
 
--- src/proposal.rt:114:13
 solve-low-line-requires : tie.Need-solve-low-line-requires
 solve-low-line-requires c κs = search needs
 
--- src/proposal.rt:114:13
 returns : tie.Need-returns
-returns c = ?
+returns c =
+    let s = c .before .before .before .before .before in
+    solved-line (jobOf (s .args .words .now)) (one-column (s .pre .0) (sym (s .pre .1) ∙ c .before .before .before .if1 .taken)) (c .solve-low-line .ensures)
 
--- src/proposal.rt:116:9
 solve-line-requires : tie.Need-solve-line-requires
 solve-line-requires c κs = search needs
 
--- src/proposal.rt:116:9
 returns-2 : tie.Need-returns-2
-returns-2 c = ?
+returns-2 c =
+    let s = c .before .before .before .before .before in
+    solved-line (jobOf (s .args .words .now)) (one-column (s .pre .0) (sym (s .pre .1) ∙ c .before .before .before .if1 .taken)) (c .solve-line .ensures)
 
--- src/proposal.rt:118:13
 mul-z : tie.Need-mul-z
-mul-z c = ?
+mul-z c =
+    let s = c .before .before in
+    let few : c .before .order-of .result ≤ 4 = omega (arith, c .before .order-of .ensures, order-few (s .pre .0)) in
+    let less = N.mul-le-mul few (s .pre .2) in
+    search needs
 
--- src/proposal.rt:120:9
 solve-small-grid-requires : tie.Need-solve-small-grid-requires
-solve-small-grid-requires c κs = ?
+solve-small-grid-requires c κs =
+    let s = c .before .before .before .before in
+    (record { known = s .pre .0; columns-few = omega (arith, s .pre .1, s .pre .2); reach-is = ap₂ _*_ (c .before .before .before .order-of .ensures) (s .pre .1) }, s .pre .3)
 
--- src/proposal.rt:120:9
 returns-3 : tie.Need-returns-3
-returns-3 c = ?
+returns-3 c =
+    let s = c .before .before .before .before .before in
+    solved-grid (jobOf (s .args .words .now)) (more-columns (s .pre .0) (λ e. c .before .before .before .if1 .left (s .pre .1 ∙ e))) (c .solve-small-grid .ensures)
 
--- src/proposal.rt:122:5
 solve-grid-requires : tie.Need-solve-grid-requires
-solve-grid-requires c κs = ?
+solve-grid-requires c κs =
+    let s = c .before .before .before .before in
+    (record { known = s .pre .0; columns-few = omega (arith, s .pre .1, s .pre .2); reach-is = ap₂ _*_ (c .before .before .before .order-of .ensures) (s .pre .1) }, s .pre .3)
 
--- src/proposal.rt:107:1
 returns-4 : tie.Need-returns-4
-returns-4 c = ?
+returns-4 c =
+    let s = c .before .before .before .before .before in
+    solved-grid (jobOf (s .args .words .now)) (more-columns (s .pre .0) (λ e. c .before .before .before .if1 .left (s .pre .1 ∙ e))) (c .solve-grid .ensures)
 
 pub solve-job-spec : {M : Type 1} → statement M
 solve-job-spec =

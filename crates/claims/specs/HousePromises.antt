@@ -11,7 +11,6 @@ use Rattle.jobs.specs.Allowed.{Allowed}
 use Rattle.measure.specs.declared.check.Verdict.the-variants.{Refused}
 use Rattle.measure.specs.Check.{checkOf}
 use Rattle.measure.specs.Loss.{familyOf, familyAcross, acrossAt, roughness}
-use Rattle.house.specs.Grid.{gridIn}
 use Rattle.house.specs.Squares.{downFamily, acrossFamily}
 use Rattle.house.specs.Proposal.{proposeOf}
 
@@ -23,10 +22,10 @@ HouseUnprivileged =
 
 -- W-205, "differences down the columns": those of A are those of the loss.
 abbrev pub HouseDown : Type 0
-HouseDown = (j : Job) → Allowed j → downFamily (gridIn j) ≡ familyOf j
+HouseDown = (j : Job) → Allowed j → downFamily j ≡ familyOf j
 
 -- "those along the rows": A's family numbers those that lie in a row, and the loss has 0 for the others; at every table v their squares come to the same.
 abbrev pub HouseAcross : Type 0
 HouseAcross =
     (j : Job) → Allowed j → (v : ℕ → ℤ)
-    → roughness (acrossFamily (gridIn j)) (difference (acrossFamily (gridIn j)) v) ≡ roughness (familyAcross j) (acrossAt j v)
+    → roughness (acrossFamily j) (difference (acrossFamily j) v) ≡ roughness (familyAcross j) (acrossAt j v)

@@ -1,15 +1,19 @@
-// The solve with a whole factor: forward, division, backward.
+// The solve with a whole factor: forward, division, backward, each in the place of what it was made of.
 use crate::CELLS;
+use crate::Ending;
+use crate::STARTS;
 use crate::lowest_of;
+use crate::start_at;
 ghost use mathlib.Core.Path.{_≡_};
-ghost use Prim.Native.Nat.{_+_, _-_, _*_, _≤_, _<_};
+ghost use Prim.Native.Nat.{_+_, _-_, _≤_, _<_};
 ghost use lib.ListN.{length};
 ghost use Rattle.factor.specs.Factor.{lessBy};
-ghost use Rattle.factor.specs.Solve.{highest, lowerTerm, upperTerm, forwardFrom, dividedFrom, backwardFrom, solutionOf};
+ghost use Rattle.factor.specs.Places.{Placed};
+ghost use Rattle.factor.specs.Solve.{highest, lowerTerm, upperTerm, forwardFrom, dividedFrom, backwardFrom, solutionOf, solvedBy};
 
 // min(n - 1, j + z)
 fn highest_of(j: usize, z: usize, n: usize) -> usize
-    requires { ⌜ (j < n) × (n ≤ 120) × (z ≤ 48) ⌝ }
+    requires { ⌜ (j < n) × (n ≤ 120) × (z ≤ 120) ⌝ }
     ensures { λ r. ⌜ r ≡ highest j z n ⌝ }
 {
     if j + z < n { j + z } else { n - 1 }
@@ -31,15 +35,23 @@ fn less_lower(lj: &[f64], y: &[f64; CELLS], x: f64, j: usize, lo: usize) -> f64
 }
 
 // x less L(m,j) v(m), for m rising from j + 1 to top.
-fn less_upper(l: &[f64], width: usize, v: &[f64; CELLS], x: f64, j: usize, top: usize) -> f64
-    requires { ⌜ (j ≤ top) × (top < 120) × (top ≤ j + width) × (width ≤ 48) × (120 * width ≤ length (now l)) ⌝ }
-    ensures { λ r. ⌜ r ≡ lessBy (upperTerm width (now (l .entry)) j (now (v .entry))) (j + 1) (top - j) x ⌝ }
+fn less_upper(
+    l: &[f64],
+    starts: &[u16; STARTS],
+    z: usize,
+    v: &[f64; CELLS],
+    x: f64,
+    j: usize,
+    top: usize,
+) -> f64
+    requires { ⌜ (j ≤ top) × (top < 120) × (top ≤ j + z) × Placed z (top + 1) (now starts) (now l) ⌝ }
+    ensures { λ r. ⌜ r ≡ lessBy (upperTerm z (now (l .entry)) j (now (v .entry))) (j + 1) (top - j) x ⌝ }
 {
     let mut rest = x;
     let mut m = j + 1;
     while m <= top {
         let p = m - j - 1;
-        let at = width * m;
+        let at = start_at(starts, m);
         let place = at + p;
         rest = rest - l[place] * v[m];
         m += 1;
@@ -48,69 +60,86 @@ fn less_upper(l: &[f64], width: usize, v: &[f64; CELLS], x: f64, j: usize, top: 
 }
 
 // y, in place of the right side.
-fn forward(l: &[f64], width: usize, right: [f64; CELLS], n: usize, z: usize) -> [f64; CELLS]
-    requires { ⌜ (n ≤ 120) × (z ≤ width) × (width ≤ 48) × (120 * width ≤ length (now l)) ⌝ }
-    ensures { λ r. ⌜ r ≡ forwardFrom width (now (l .entry)) z n 0 right ⌝ }
+fn forward(l: &[f64], starts: &[u16; STARTS], y: &mut [f64; CELLS], n: usize, z: usize)
+    requires { ⌜ (n ≤ 120) × Placed z n (now starts) (now l) ⌝ }
+    ensures { λ _. ⌜ now (y .exit) ≡ forwardFrom (now (l .entry)) z n 0 (now (y .entry)) ⌝ }
 {
-    let mut y = right;
     let mut j = 0;
     while j < n {
         let lo = lowest_of(j, z);
-        let at = width * j;
-        let end = at + width;
+        let at = start_at(starts, j);
+        let next = j + 1;
+        let end = start_at(starts, next);
         let x = y[j];
-        let rest = less_lower(&l[at..end], &y, x, j, lo);
+        let rest = less_lower(&l[at..end], y, x, j, lo);
         y[j] = rest;
         j += 1;
     }
-    y
 }
 
 // t, in place of y.
-fn divided(d: &[f64; CELLS], y: [f64; CELLS], n: usize) -> [f64; CELLS]
+fn divide(d: &[f64; CELLS], y: &mut [f64; CELLS], n: usize)
     requires { ⌜ n ≤ 120 ⌝ }
-    ensures { λ r. ⌜ r ≡ dividedFrom (now (d .entry)) n 0 y ⌝ }
+    ensures { λ _. ⌜ now (y .exit) ≡ dividedFrom (now (d .entry)) n 0 (now (y .entry)) ⌝ }
 {
-    let mut t = y;
     let mut j = 0;
     while j < n {
-        t[j] = t[j] / d[j];
+        y[j] = y[j] / d[j];
         j += 1;
     }
-    t
 }
 
 // v, in place of t, for j falling.
-fn backward(l: &[f64], width: usize, t: [f64; CELLS], n: usize, z: usize) -> [f64; CELLS]
-    requires { ⌜ (n ≤ 120) × (z ≤ width) × (width ≤ 48) × (120 * width ≤ length (now l)) ⌝ }
-    ensures { λ r. ⌜ r ≡ backwardFrom width (now (l .entry)) z n n t ⌝ }
+fn backward(l: &[f64], starts: &[u16; STARTS], v: &mut [f64; CELLS], n: usize, z: usize)
+    requires { ⌜ (n ≤ 120) × (z ≤ 120) × Placed z n (now starts) (now l) ⌝ }
+    ensures { λ _. ⌜ now (v .exit) ≡ backwardFrom (now (l .entry)) z n n (now (v .entry)) ⌝ }
 {
-    let mut v = t;
     let mut left = n;
     while 0 < left {
         let j = left - 1;
         let top = highest_of(j, z, n);
         let x = v[j];
-        let rest = less_upper(l, width, &v, x, j, top);
+        let rest = less_upper(l, starts, z, v, x, j, top);
         v[j] = rest;
         left -= 1;
     }
-    v
 }
 
-// The values before rounding.
-pub fn solve(
+// The values before rounding, in place of the right side.
+fn solve(
     d: &[f64; CELLS],
     l: &[f64],
-    width: usize,
-    right: [f64; CELLS],
+    starts: &[u16; STARTS],
+    v: &mut [f64; CELLS],
     n: usize,
     z: usize,
-) -> [f64; CELLS]
-    requires { ⌜ (n ≤ 120) × (z ≤ width) × (width ≤ 48) × (120 * width ≤ length (now l)) ⌝ }
-    ensures { λ r. ⌜ r ≡ solutionOf width (now (d .entry)) (now (l .entry)) z n right ⌝ }
+)
+    requires { ⌜ (n ≤ 120) × (z ≤ 120) × Placed z n (now starts) (now l) ⌝ }
+    ensures { λ _. ⌜ now (v .exit) ≡ solutionOf (now (d .entry)) (now (l .entry)) z n (now (v .entry)) ⌝ }
 {
-    let y = forward(l, width, right, n, z);
-    let t = divided(d, y, n);
-    backward(l, width, t, n, z)
+    forward(l, starts, v, n, z);
+    divide(d, v, n);
+    backward(l, starts, v, n, z);
+}
+
+// The same where the factor is whole; where it is thin, nothing is done. The ending is handed back.
+pub fn solve_whole(
+    ending: Ending,
+    d: &[f64; CELLS],
+    l: &[f64],
+    starts: &[u16; STARTS],
+    v: &mut [f64; CELLS],
+    n: usize,
+    z: usize,
+) -> Ending
+    requires { ⌜ (n ≤ 120) × (z ≤ 120) × Placed z n (now starts) (now l) ⌝ }
+    ensures { λ r. ⌜ (r ≡ ending) × (now (v .exit) ≡ solvedBy z n (now (v .entry)) (now (d .entry)) (now (l .entry)) ending) ⌝ }
+{
+    match ending {
+        Ending::Thin(cell, pivot) => Ending::Thin(cell, pivot),
+        Ending::Whole => {
+            solve(d, l, starts, v, n, z);
+            Ending::Whole
+        }
+    }
 }

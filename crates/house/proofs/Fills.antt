@@ -3,12 +3,12 @@ use Prim.Native.Nat.{ℕ, zero, suc, _+_, _-_, _≤_, _<_}
 use mathlib.Core.Path.{_≡_, refl, ap, _∙_}
 use mathlib.Core.Logic.{_⊎_, ⊎-elim, inl, inr}
 use mathlib.Core.Bool.{Bool, true, false}
-use mathlib.Core.List.{List}
+use mathlib.Core.List.{List, _++_}
 use native.Mathlib.Omega.{arith}
 use borrow.Author.Tests.{eqb-true, eqb-false, ltb-true, ltb-false}
 use lib.Dec.{eqb, ltb}
 use lib.ListN.{length, getD, set, take, length-set}
-use lib.Seq.{take-set-lt, getD-set-same, getD-set-other, lt-length-set}
+use lib.Seq.{take-set-lt, set-append-left, getD-set-same, getD-set-other, lt-length-set}
 use Rattle.house.specs.Filled.{filled}
 
 module _ {A : Type 0} (f : ℕ → A) (i n : ℕ) (xs : List A) where
@@ -38,6 +38,12 @@ module _ {A : Type 0} (f : ℕ → A) where
   unfolding filled
   take-filled zero i m xs h = refl
   take-filled (suc n) i m xs h = take-filled n (i + 1) m (set xs i (f i)) (omega arith) ∙ ap (filled f n (i + 1)) (take-set-lt m xs i (f i) (omega arith))
+
+  pub filled-append : (n i : ℕ) (xs ys : List A) → i + n ≤ length xs → filled f n i (xs ++ ys) ≡ filled f n i xs ++ ys
+  unfolding filled
+  filled-append zero i xs ys h = refl
+  filled-append (suc n) i xs ys h =
+      ap (filled f n (i + 1)) (set-append-left xs ys i (f i) (omega arith)) ∙ filled-append n (i + 1) (set xs i (f i)) ys (rw length-set (omega arith))
 
   pub length-filled : (n i : ℕ) (xs : List A) → length (filled f n i xs) ≡ length xs
   unfolding filled

@@ -3,27 +3,28 @@
 use Prim.Native.Nat.{ℕ, zero, suc, _+_, _-_, _≤_, _<_}
 use mathlib.Core.Path.{_≡_, refl, sym, ap, _∙_}
 use mathlib.Core.Bool.{Bool}
-use mathlib.Core.List.{List, _∷_}
+use mathlib.Core.List.{List, _∷_, _++_}
 use native.Mathlib.Omega.{arith}
 use borrow.Author.Tests.{lt-ltb, le-ltb}
 use lib.IntN.{ℤ, pos}
 use lib.Ieee.{Float, nan}
-use lib.ListN.{getD, take, replicate}
+use lib.ListN.{getD, take, replicate, length-replicate, replicate-append-replicate}
 use lib.Seq.{sets}
 use Rattle.numbers.specs.Choice.{if_then_else_}
 use Rattle.packs.specs.declared.Outcome.the-variants.{Done}
 use Rattle.packs.specs.Writing.{Written, refused}
+use Rattle.packs.specs.Walking.{packed, padded}
 use Rattle.jobs.specs.Job.{Job}
 use Rattle.jobs.specs.Words.{jobOf}
 use Rattle.jobs.specs.Packs.{readJob}
 use Rattle.jobs.proofs.Readings.{read-jobs-allowed, read-jobs-laid}
 use Rattle.jobs.proofs.Handed.{scratch-part}
+use Rattle.factor.specs.declared.Ending.{Ending}
 use Rattle.factor.specs.declared.Ending.the-variants.{Whole, Thin}
-use Rattle.house.specs.declared.proposal.Solved.{Solved}
 use Rattle.house.specs.Known.{Known}
 use Rattle.house.specs.Filled.{filled}
 use Rattle.house.specs.Proposal.{solvedOf, valueOf, wordsOf, writtenOf, onEnding, proposedOf, onJobRead, proposeOf}
-use Rattle.house.proofs.Fills.{take-filled}
+use Rattle.house.proofs.Fills.{take-filled, filled-append}
 
 -- ---- the words of the job
 
@@ -42,17 +43,17 @@ pub wide-refused : (room : ℕ) (j : Job) → 12 < j .columns → refused 20 0 �
 unfolding proposedOf
 wide-refused room j h = ap {B = Written} (λ (b : Bool). if b then refused 20 0 else onEnding room j (solvedOf j .values) (solvedOf j .ending)) (sym (lt-ltb 12 (j .columns) h))
 
-module _ (room : ℕ) (j : Job) (few : j .columns ≤ 12) {s : Solved} (e : s ≡ solvedOf j) where
-  case : onEnding room j (s .values) (s .ending) ≡ proposedOf room j
+module _ (room : ℕ) (j : Job) (few : j .columns ≤ 12) {e : Ending} {v : List Float} (h : (e ≡ solvedOf j .ending) × (v ≡ solvedOf j .values)) where
+  case : onEnding room j v e ≡ proposedOf room j
   unfolding proposedOf
-  case = ap {B = Written} (λ (s : Solved). onEnding room j (s .values) (s .ending)) e
-      ∙ ap {B = Written} (λ (b : Bool). if b then refused 20 0 else onEnding room j (solvedOf j .values) (solvedOf j .ending)) (sym (le-ltb 12 (j .columns) few))
+  case = rw (h .0, h .1)
+      (ap {B = Written} (λ (b : Bool). if b then refused 20 0 else onEnding room j (solvedOf j .values) (solvedOf j .ending)) (sym (le-ltb 12 (j .columns) few)))
 
-  pub thin-refused : {cell : ℕ} {x : Float} → s .ending ≡ Thin cell x → refused 10 cell ≡ proposedOf room j
-  thin-refused t = ap {B = Written} (onEnding room j (s .values)) (sym t) ∙ case
+  pub thin-refused : {cell : ℕ} {x : Float} → e ≡ Thin cell x → refused 10 cell ≡ proposedOf room j
+  thin-refused t = ap {B = Written} (onEnding room j v) (sym t) ∙ case
 
-  pub whole-written : s .ending ≡ Whole → writtenOf room j (s .values) ≡ proposedOf room j
-  whole-written t = ap {B = Written} (onEnding room j (s .values)) (sym t) ∙ case
+  pub whole-written : e ≡ Whole → writtenOf room j v ≡ proposedOf room j
+  whole-written t = ap {B = Written} (onEnding room j v) (sym t) ∙ case
 
 -- ---- the words of the proposal
 
@@ -61,12 +62,21 @@ take-zeros zero k h = refl
 take-zeros (suc m) zero h = absurd (omega arith)
 take-zeros (suc m) (suc k) h = ap (λ (xs : List ℤ). pos 0 ∷ xs) (take-zeros m k (omega arith))
 
-pub part-words : (j : Job) (v : List Float) {n l : ℕ} {ws : List ℤ} → n ≡ j .cells → l ≡ j .links → n + l ≤ 280
-    → ws ≡ filled (λ i. valueOf j i (getD v i nan)) n 0 (replicate 280 (pos 0)) → take (n + l - 0) ws ≡ wordsOf j v
+-- the values that were filled, and a zero for each link
+pub part-words : (j : Job) (v : List Float) {n l : ℕ} {ws : List ℤ} → n ≡ j .cells → l ≡ j .links → n ≤ 120
+    → ws ≡ filled (λ i. valueOf j i (getD v i nan)) n 0 (replicate 120 (pos 0)) → take (n - 0) ws ++ replicate l (pos 0) ≡ wordsOf j v
 unfolding wordsOf
 part-words j v {n} {l} {ws} en el h ew =
-    let less : n + l - 0 ≡ n + l = omega arith in
+    let less : n - 0 ≡ n = omega arith in
     let f : ℕ → ℤ = λ i. valueOf j i (getD v i nan) in
-    let p : take (n + l - 0) ws ≡ filled f n 0 (replicate (n + l) (pos 0)) =
-    rw (less, ew) (take-filled f n 0 (n + l) (replicate 280 (pos 0)) (omega arith) ∙ ap (filled f n 0) (take-zeros (n + l) 280 h)) in
-    p ∙ rw (en, el)
+    let values : take (n - 0) ws ≡ filled f n 0 (replicate n (pos 0)) =
+    rw (less, ew) (take-filled f n 0 n (replicate 120 (pos 0)) (omega arith) ∙ ap (filled f n 0) (take-zeros n 120 h)) in
+    let zeros : replicate n (pos 0) ++ replicate l (pos 0) ≡ replicate (n + l) (pos 0) = replicate-append-replicate n l (pos 0) in
+    let whole : filled f n 0 (replicate n (pos 0)) ++ replicate l (pos 0) ≡ filled f n 0 (replicate (n + l) (pos 0)) =
+    sym (filled-append f n 0 (replicate n (pos 0)) (replicate l (pos 0)) (omega (arith, length-replicate n (pos 0)))) ∙ ap (filled f n 0) zeros in
+    rw values (whole ∙ rw (en, el))
+
+pub part-padded : (j : Job) (v : List Float) {n l : ℕ} {ws : List ℤ} → n ≡ j .cells → l ≡ j .links → n ≤ 120
+    → ws ≡ filled (λ i. valueOf j i (getD v i nan)) n 0 (replicate 120 (pos 0)) → padded (take (n - 0) ws) l ≡ packed (wordsOf j v)
+unfolding padded
+part-padded j v en el h ew = ap packed (part-words j v en el h ew)

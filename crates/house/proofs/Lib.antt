@@ -6,8 +6,8 @@ pub mod Halves
 pub mod Nearest
 pub mod Boxed
 pub mod Steps
-pub mod Places
 pub mod Shaped
+pub mod Places
 pub mod Spread
 pub mod Squares
 pub mod Solving

@@ -1,58 +1,65 @@
--- Where a cell of a grid stands, and the sizes of what the code makes of it.
+-- Where a cell of a job stands, and the sizes of what the code makes of it.
 use Prim.Native.Nat.{ℕ, _*_, _/_, _%_, _≤_, _<_}
-use mathlib.Core.Path.{_≡_, ap, ap₂, _∙_}
+use mathlib.Core.Path.{_≡_, subst, _∙_}
 use mathlib.Core.List.{List}
 use native.Mathlib.Nat as N
 use native.Mathlib.Omega.{arith}
 use lib.Dec.{lit<}
 use lib.IntN.{ℤ, natAbs, _*ℤ_}
-use lib.Ieee.{Float}
 use mir.Syntax.{w64}
 use mir.Val.{toZ, ofZ}
+use Rattle.whole.proofs.Fits.{small-fits, gives}
 use Rattle.whole.proofs.Magnitude.{bound-+, bound-*}
-use Rattle.house.specs.Band.{squaresAt, wholeEntry, entriesOf}
-use Rattle.house.specs.Grid.{Narrow}
+use Rattle.jobs.specs.Words.{cellsOf, rowsOf, columnsOf, acrossOf, jobOf}
+use Rattle.house.specs.Known.{Known}
+use Rattle.house.specs.Band.{squaresAt, wholeEntry}
+use Rattle.house.specs.Grid.{reach, acrossSquares}
 use Rattle.house.proofs.Sizes.{squares-small}
-use Rattle.house.proofs.Told.{word-is}
+use Rattle.house.proofs.Told.{weight-small}
+use Rattle.house.proofs.Shaped.{columns-some, second-small}
 
-module _ {rows columns down across : ℕ} {constant second : ℤ} (s : Narrow rows columns down across constant second) where
-  pub rows-few : rows ≤ 120
-  rows-few = N.le-trans (N.le-mul-of-pos-right rows (s .columns-some)) (s .cells-few)
+module _ {ws : List ℤ} (k : Known ws) where
+  pub cells-are : rowsOf ws * columnsOf ws ≡ cellsOf ws
+  cells-are = k .allowed .cells-are
 
-  pub reach-few : down * columns ≤ 48
-  reach-few = N.le-trans (N.mul-le-mul-right columns (s .down-few)) (omega (arith, s .columns-few))
+  pub rows-few : rowsOf ws ≤ 120
+  rows-few = N.le-trans (N.le-mul-of-pos-right (rowsOf ws) (columns-some k)) (omega (arith, cells-are, k .allowed .cells-few))
 
-  pub reach-within : down * columns < 5 * columns
-  reach-within = omega (arith, N.mul-le-mul-right columns (s .down-few), s .columns-some)
+  pub row-of-cell : (i : ℕ) → i < cellsOf ws → i / columnsOf ws < rowsOf ws
+  row-of-cell i h = N.div-lt-iff-lt-mul (columns-some k) .1 (omega (arith, cells-are))
 
-  pub row-of-cell : (j : ℕ) → j < rows * columns → j / columns < rows
-  row-of-cell j h = N.div-lt-iff-lt-mul (s .columns-some) .1 h
+  pub place-of-cell : (i : ℕ) → i % columnsOf ws < columnsOf ws
+  place-of-cell i = N.mod-lt i (columns-some k)
 
-  pub place-of-cell : (j : ℕ) → j % columns < columns
-  place-of-cell j = N.mod-lt j (s .columns-some)
+  pub columns-within : columnsOf ws ≤ 120
+  columns-within = N.le-trans (subst (λ (x : ℕ). columnsOf ws ≤ x) (N.mul-comm (columnsOf ws) (rowsOf ws)) (N.le-mul-of-pos-right (columnsOf ws) some-rows)) (omega (arith, cells-are, k .allowed .cells-few))
+    where
+      some-rows : 1 ≤ rowsOf ws
+      some-rows = omega (arith, k .allowed .order-less)
+
+  pub reach-within : reach (jobOf ws) < 5 * columnsOf ws
+  reach-within = omega (arith, N.mul-le-mul-right (columnsOf ws) (k .allowed .order-few), columns-some k)
+
+  pub reach-few : columnsOf ws ≤ 12 → reach (jobOf ws) ≤ 48
+  reach-few h = N.le-trans (N.mul-le-mul-right (columnsOf ws) (k .allowed .order-few)) (omega arith)
 
   -- W + k2·Ka'Ka on the diagonal
-  module _ (w : ℤ) (hw : natAbs w ≤ 1000) (place : ℕ) where
+  module _ (i : ℕ) (h : i < cellsOf ws) where
     abbrev squares : ℤ
-    squares = squaresAt columns across place 0
+    squares = acrossSquares (jobOf ws) i 0
 
     pub side-small : natAbs squares ≤ 180
-    side-small = squares-small columns across place 0 (s .across-few)
+    side-small = squares-small (columnsOf ws) (acrossOf ws) (i % columnsOf ws) 0 (k .allowed .across-few)
 
-    pub diagonal-small : natAbs (wholeEntry w second squares 0) ≤ 181000
-    diagonal-small = bound-+ w (second *ℤ squares) hw (bound-* second squares (s .second-small) side-small)
+    abbrev diagonal : ℤ
+    diagonal = wholeEntry (jobOf ws .weight i) (jobOf ws .second) squares 0
+
+    pub diagonal-small : natAbs diagonal ≤ 181000
+    diagonal-small = bound-+ (jobOf ws .weight i) (jobOf ws .second *ℤ squares) (weight-small k h) (bound-* (jobOf ws .second) squares (second-small k) side-small)
 
     -- what the code's signed locals read back as
-    pub diagonal-is : {a x q : ℤ} → x ≡ w → q ≡ squares → a ≡ wholeEntry (toZ w64 (ofZ w64 x)) (toZ w64 (ofZ w64 second)) (toZ w64 (ofZ w64 q)) 0
-        → a ≡ wholeEntry w second squares 0
-    diagonal-is ex eq ea =
-        ea ∙ rw (ex, eq, word-is w hw (lit< tt), word-is second (s .second-small) (lit< tt), word-is squares side-small (lit< tt))
+    pub squares-is : {x : ℤ} {columns across : ℕ} → columns ≡ columnsOf ws → across ≡ acrossOf ws → x ≡ squaresAt columns across (i % columns) 0 → toZ w64 (ofZ w64 x) ≡ squares
+    squares-is ec ea ex = gives (ex ∙ rw (ec, ea)) (small-fits squares side-small (lit< tt))
 
-    pub below-is : {a : ℤ} {r : List Float} (row : ℕ) → a ≡ wholeEntry w second squares 0 → r ≡ entriesOf (toZ w64 (ofZ w64 a)) (toZ w64 (ofZ w64 constant)) rows down row
-        → r ≡ entriesOf (wholeEntry w second squares 0) constant rows down row
-    below-is row ea er =
-        er ∙ ap₂ (λ (w k : ℤ). entriesOf w k rows down row) (ap (λ (a : ℤ). toZ w64 (ofZ w64 a)) ea ∙ word-is (wholeEntry w second squares 0) diagonal-small (lit< tt)) (word-is constant (s .constant-small) (lit< tt))
-
--- the entry of an offset within five columns
-pub turn-few : (o columns : ℕ) → 1 ≤ columns → o < 5 * columns → o / columns < 5
-turn-few o columns h k = N.div-lt-iff-lt-mul h .1 k
+    pub diagonal-is : {a w s q : ℤ} → w ≡ jobOf ws .weight i → s ≡ jobOf ws .second → q ≡ squares → a ≡ wholeEntry w s q 0 → toZ w64 (ofZ w64 a) ≡ diagonal
+    diagonal-is ew es eq ea = gives (ea ∙ rw (ew, es, eq)) (small-fits diagonal diagonal-small (lit< tt))

@@ -11,10 +11,9 @@ use mir.Syntax.{w64}
 use mir.Val.{toZ, ofZ}
 use Rattle.whole.proofs.Fits.{small-fits, gives}
 use Rattle.jobs.specs.Job.{Job}
-use Rattle.jobs.specs.Words.{cellsOf, isGrid, rowsOf, columnsOf, orderOf, acrossOf, secondOf, jobOf}
+use Rattle.jobs.specs.Words.{cellsOf, isGrid, rowsOf, columnsOf, secondOf, jobOf}
 use Rattle.jobs.specs.Allowed.{ShapeAllowed}
 use Rattle.house.specs.Known.{Known}
-use Rattle.house.specs.Grid.{Narrow}
 
 some-column : (j : Job) (grid : Bool) → ShapeAllowed j grid → 1 ≤ j .columns
 some-column j true s = omega (arith, s .columns-some)
@@ -46,14 +45,3 @@ module _ {ws : List ℤ} (k : Known ws) where
 
   pub second-is : {x : ℤ} → x ≡ secondOf ws → toZ w64 (ofZ w64 x) ≡ secondOf ws
   second-is e = gives e (small-fits (secondOf ws) second-small (lit< tt))
-
-  pub narrow : columnsOf ws ≤ 12 → Narrow (rowsOf ws) (columnsOf ws) (orderOf ws) (acrossOf ws) (jobOf ws .constant) (secondOf ws)
-  narrow h = record {
-    columns-some = columns-some;
-    columns-few = h;
-    cells-few = omega (arith, k .allowed .cells-are, k .allowed .cells-few);
-    down-few = k .allowed .order-few;
-    across-few = k .allowed .across-few;
-    constant-small = k .allowed .constant .small;
-    second-small = second-small;
-  }

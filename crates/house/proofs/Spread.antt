@@ -1,31 +1,26 @@
--- The two lists that hold a grid's band hold its entries: at the multiples of the columns those down, within a row those across, and 0 elsewhere.
+-- The two lists that a row of a grid's band is made of hold its entries: at the multiples of the columns those down, within a row those across, and 0
+-- elsewhere.
 use Prim.Native.Nat.{ℕ, zero, suc, _+_, _-_, _*_, _/_, _%_, _≤_, _<_}
 use mathlib.Core.Path.{_≡_, refl, sym, ap, ap₂, _∙_}
 use mathlib.Core.Bool.{Bool, true, false, _&&_}
 use mathlib.Core.List.{List, []}
 use native.Mathlib.Nat as N
 use native.Mathlib.Omega.{arith}
-use borrow.Author.Tests.{eqb-true, eqb-false, leb-true, leb-false, lt-leb, ne-eqb}
-use lib.Dec.{eqb, leb, ltb, lit<}
+use borrow.Author.Tests.{eqb-true, eqb-false, leb-true, leb-false, ltb-true, ltb-false, lt-leb, ne-eqb}
+use lib.Dec.{eqb, leb, ltb}
 use lib.IntN.{ℤ, pos, _+ℤ_, _*ℤ_}
 use lib.ListN.{length, getD, set, replicate, length-replicate}
 use lib.Ieee.{Float, nan, binary64, ofInt}
-use mir.Syntax.{w64}
-use mir.Val.{toZ, ofZ}
 use Rattle.numbers.specs.Choice.{if_then_else_}
 use Rattle.whole.proofs.Sums.{sum-vanish}
 use Rattle.whole.proofs.Solve.{num, _⊕_, _⊗_, _≗_, ring}
 use Rattle.rows.specs.Rows.{rowOf}
-use Rattle.factor.specs.Factor.{Factor, factorOf}
-use Rattle.factor.proofs.Turns.{factor-cong}
-use Rattle.house.specs.declared.proposal.Solved.{Solved}
+use Rattle.jobs.specs.Job.{Job}
 use Rattle.house.specs.Filled.{filled}
-use Rattle.house.specs.Band.{usesBoth, productTerm, squaresAt, wholeEntry, entryOf, entriesOf, zero64, rightBy}
-use Rattle.house.specs.Grid.{Grid, Narrow, cells, reach, gridOf, downAt, acrossAt, weightAt, gridEntry, gridRows, gridSolved}
-use Rattle.house.specs.Held.{nothing, belowOf, besideOf, bandDown, bandAcross, entryAt, spreadOf, heldRows}
-use Rattle.house.specs.Factoring.{solvedBy, solvedWith}
-use Rattle.house.proofs.Told.{word-is}
-use Rattle.house.proofs.Fills.{length-filled, filled-at}
+use Rattle.house.specs.Band.{usesBoth, productTerm, squaresAt, wholeEntry, entryOf, entriesOf, zero64}
+use Rattle.house.specs.Grid.{reach, downSquares, acrossSquares, weightAt, gridEntry, gridRows}
+use Rattle.house.proofs.Fills.{length-filled}
+use Rattle.house.specs.Held.{belowOf, besideOf, entryAt, spreadOf}
 
 -- ---- where K'K is 0
 
@@ -67,7 +62,7 @@ only-across = ring 3 (λ k l a. l ⊗ a ≗ num 0 ⊕ k ⊗ num 0 ⊕ l ⊗ a) t
 pub neither : (k l : ℤ) → pos 0 ≡ pos 0 +ℤ k *ℤ pos 0 +ℤ l *ℤ pos 0
 neither = ring 2 (λ k l. num 0 ≗ num 0 ⊕ k ⊗ num 0 ⊕ l ⊗ num 0) tt
 
-module _ (g : Grid) (some : 1 ≤ g .columns) (few : g .across ≤ 4) (j : ℕ) where
+module _ (g : Job) (some : 1 ≤ g .columns) (few : g .across ≤ 4) (j : ℕ) where
   abbrev c : ℕ
   c = g .columns
 
@@ -83,12 +78,12 @@ module _ (g : Grid) (some : 1 ≤ g .columns) (few : g .across ≤ 4) (j : ℕ) 
   -- the whole number at the offset o, by what the two tests say of o
   abbrev whole : (b e : Bool) (o : ℕ) → ℤ
   whole b e o =
-      (if b then g .weight j else pos 0) +ℤ g .constant *ℤ (if e then squaresAt (g .rows) (g .down) row (o / c) else pos 0) +ℤ g .second *ℤ acrossAt g j o
+      (if b then g .weight j else pos 0) +ℤ g .constant *ℤ (if e then squaresAt (g .rows) (g .order) row (o / c) else pos 0) +ℤ g .second *ℤ acrossSquares g j o
 
   -- on the diagonal
-  at-zero : wholeEntry (wholeEntry (g .weight j) (g .second) (acrossAt g j 0) 0) (g .constant) (squaresAt (g .rows) (g .down) row 0) 0
-      ≡ g .weight j +ℤ g .constant *ℤ squaresAt (g .rows) (g .down) row 0 +ℤ g .second *ℤ acrossAt g j 0
-  at-zero = sum-order (g .weight j) (g .constant) (squaresAt (g .rows) (g .down) row 0) (g .second) (acrossAt g j 0)
+  at-zero : wholeEntry (wholeEntry (g .weight j) (g .second) (acrossSquares g j 0) 0) (g .constant) (squaresAt (g .rows) (g .order) row 0) 0
+      ≡ g .weight j +ℤ g .constant *ℤ squaresAt (g .rows) (g .order) row 0 +ℤ g .second *ℤ acrossSquares g j 0
+  at-zero = sum-order (g .weight j) (g .constant) (squaresAt (g .rows) (g .order) row 0) (g .second) (acrossSquares g j 0)
 
   diagonal : getD (belowOf g j) (0 / c) nan ≡ gridEntry g j 0
   unfolding gridEntry
@@ -112,14 +107,14 @@ module _ (g : Grid) (some : 1 ≤ g .columns) (few : g .across ≤ 4) (j : ℕ) 
     down-entry : getD (belowOf g j) (o / c) nan ≡ gridEntry g j o
     unfolding gridEntry
     down-entry =
-        entries-at (wholeEntry (g .weight j) (g .second) (acrossAt g j 0) 0) (g .constant) (g .rows) (g .down) row (o / c) (N.div-lt-iff-lt-mul some .1 near)
+        entries-at (wholeEntry (g .weight j) (g .second) (acrossSquares g j 0) 0) (g .constant) (g .rows) (g .order) row (o / c) (N.div-lt-iff-lt-mul some .1 near)
         ∙ ap (ofInt binary64) down-whole
       where
-        down-whole : wholeEntry (wholeEntry (g .weight j) (g .second) (acrossAt g j 0) 0) (g .constant) (squaresAt (g .rows) (g .down) row (o / c)) (o / c)
-            ≡ weightAt g j o +ℤ g .constant *ℤ downAt g j o +ℤ g .second *ℤ acrossAt g j o
+        down-whole : wholeEntry (wholeEntry (g .weight j) (g .second) (acrossSquares g j 0) 0) (g .constant) (squaresAt (g .rows) (g .order) row (o / c)) (o / c)
+            ≡ weightAt g j o +ℤ g .constant *ℤ downSquares g j o +ℤ g .second *ℤ acrossSquares g j o
         down-whole =
             rw (ne-eqb (o / c) 0 (turn-some (o / c) turns), ne-eqb o 0 (λ e. omega arith), aligned, squares-before c (g .across) place o (omega (arith, place-below, past)))
-            (only-down (g .constant) (squaresAt (g .rows) (g .down) row (o / c)) (g .second))
+            (only-down (g .constant) (squaresAt (g .rows) (g .order) row (o / c)) (g .second))
 
   -- within a row
   module _ (o : ℕ) (apart : o % c ≡ 0 → ⊥) where
@@ -132,15 +127,15 @@ module _ (g : Grid) (some : 1 ≤ g .columns) (few : g .across ≤ 4) (j : ℕ) 
         entries-at (pos 0) (g .second) c (g .across) place o (omega arith)
         ∙ ap (ofInt binary64) across-whole
       where
-        across-whole : wholeEntry (pos 0) (g .second) (acrossAt g j o) o ≡ weightAt g j o +ℤ g .constant *ℤ downAt g j o +ℤ g .second *ℤ acrossAt g j o
-        across-whole = rw (ne-eqb o 0 not-zero, ne-eqb (o % c) 0 apart) (only-across (g .constant) (g .second) (acrossAt g j o))
+        across-whole : wholeEntry (pos 0) (g .second) (acrossSquares g j o) o ≡ weightAt g j o +ℤ g .constant *ℤ downSquares g j o +ℤ g .second *ℤ acrossSquares g j o
+        across-whole = rw (ne-eqb o 0 not-zero, ne-eqb (o % c) 0 apart) (only-across (g .constant) (g .second) (acrossSquares g j o))
 
     no-entry : 4 < o → zero64 ≡ gridEntry g j o
     unfolding gridEntry ofInt
     no-entry h =
         ap (ofInt binary64) none
       where
-        none : pos 0 ≡ weightAt g j o +ℤ g .constant *ℤ downAt g j o +ℤ g .second *ℤ acrossAt g j o
+        none : pos 0 ≡ weightAt g j o +ℤ g .constant *ℤ downSquares g j o +ℤ g .second *ℤ acrossSquares g j o
         none = rw (ne-eqb o 0 not-zero, ne-eqb (o % c) 0 apart, squares-far c (g .across) place o (omega arith)) (neither (g .constant) (g .second))
 
   pub entry-held : (o : ℕ) → o < 5 * c → entryAt c (belowOf g j) (besideOf g j) o ≡ gridEntry g j o
@@ -165,39 +160,45 @@ unfolding filled
 filled-cong f h zero i xs e = refl
 filled-cong f h (suc n) i xs e = ap (λ (x : _). filled f n (i + 1) (set xs i x)) (e i (omega arith)) ∙ filled-cong f h n (i + 1) (set xs i (h i)) (λ o l. e o (omega arith))
 
-pub spread-length : (columns z : ℕ) (below beside : List Float) → length (spreadOf columns z below beside) ≡ 49
+-- a row of the band, into a list of zeros
+pub row-spread : (g : Job) → 1 ≤ g .columns → g .order ≤ 4 → g .across ≤ 4 → (j : ℕ)
+    → spreadOf (g .columns) (reach g) (belowOf g j) (besideOf g j) (replicate 49 zero64) ≡ gridRows g j
 unfolding spreadOf
-spread-length columns z below beside = length-filled (entryAt columns below beside) (z + 1) 0 (replicate 49 zero64) ∙ length-replicate 49 zero64
+row-spread g some down-few across-few j =
+    filled-cong (entryAt (g .columns) (belowOf g j) (besideOf g j)) (gridEntry g j) (reach g + 1) 0 (replicate 49 zero64)
+    (λ o l. entry-held g some across-few j o (omega (arith, N.mul-le-mul-right (g .columns) down-few)))
 
-module _ (g : Grid) (some : 1 ≤ g .columns) (down-few : g .down ≤ 4) (across-few : g .across ≤ 4) (cells-few : cells g ≤ 120) (j : ℕ) (h : j < cells g) where
-  row-held : (f : ℕ → List Float) → getD (filled f (cells g) 0 (replicate 120 (replicate 5 zero64))) j [] ≡ f j
-  row-held f = filled-at f (cells g) 0 j (replicate 120 (replicate 5 zero64)) [] (omega arith) (omega arith) (rw (length-replicate 120 (replicate 5 zero64)) (omega arith))
+pub row-length : (g : Job) (j : ℕ) {xs : List Float} → xs ≡ gridRows g j → length xs ≡ 49
+row-length g j e = ap length e ∙ length-filled (gridEntry g j) (reach g + 1) 0 (replicate 49 zero64) ∙ length-replicate 49 zero64
 
-  pub rows-held : heldRows (g .columns) (reach g) (bandDown g) (bandAcross g) j ≡ gridRows g j
-  unfolding spreadOf
-  rows-held =
-      rw (row-held (belowOf g), row-held (besideOf g))
-      (filled-cong (entryAt (g .columns) (belowOf g j) (besideOf g j)) (gridEntry g j) (reach g + 1) 0 (replicate 49 zero64)
-      (λ o l. entry-held g some across-few j o (omega (arith, N.mul-le-mul-right (g .columns) down-few))))
+-- ---- from an offset to the next, by whole rows and cells past them
 
--- the values are those of the grid
-module _ {rows columns down across : ℕ} {constant second : ℤ} (s : Narrow rows columns down across constant second) (ws us : ℕ → ℤ) where
-  abbrev grid : Grid
-  grid = gridOf rows columns down across constant second ws us
+module _ (c o : ℕ) (some : 1 ≤ c) where
+  place-of : (q r : ℕ) → r < c → (q * c + r) % c ≡ r
+  place-of q r h = N.mul-add-mod-self-right q c r ∙ N.mod-eq-of-lt h
 
-  pub grid-solved : {below beside : List (List Float)} {right : List Float} → below ≡ bandDown (gridOf rows columns down across (toZ w64 (ofZ w64 constant)) (toZ w64 (ofZ w64 second)) ws nothing)
-      → beside ≡ bandAcross (gridOf rows columns down across (toZ w64 (ofZ w64 constant)) (toZ w64 (ofZ w64 second)) nothing nothing)
-      → right ≡ rightBy (grid .weight) (grid .crude) (cells grid)
-      → solvedWith 48 (heldRows columns (down * columns) below beside) (down * columns) (rows * columns) right ≡ gridSolved grid
-  unfolding gridSolved solvedWith
-  grid-solved {below} {beside} {right} eb es er =
-      let k = word-is constant (s .constant-small) (lit< tt) in
-      let l = word-is second (s .second-small) (lit< tt) in
-      let pb : below ≡ bandDown grid = eb ∙ ap₂ (λ (k l : ℤ). bandDown (gridOf rows columns down across k l ws nothing)) k l in
-      let ps : beside ≡ bandAcross grid = es ∙ ap₂ (λ (k l : ℤ). bandAcross (gridOf rows columns down across k l nothing nothing)) k l in
-      let z = reach grid in
-      let n = cells grid in
-      let f : factorOf 48 (heldRows columns z (bandDown grid) (bandAcross grid)) z n ≡ factorOf 48 (gridRows grid) z n =
-      factor-cong 48 (heldRows columns z (bandDown grid) (bandAcross grid)) (gridRows grid) z n 0 _ _
-      (λ i h. rows-held grid (s .columns-some) (s .down-few) (s .across-few) (s .cells-few) i (omega arith)) in
-      rw (pb, ps, er) (ap {B = Solved} (λ (f : Factor). solvedBy 48 z n (rightBy (grid .weight) (grid .crude) n) (f .pivots) (f .multipliers) (f .ending)) f)
+  turns-of : (q r : ℕ) → r < c → (q * c + r) / c ≡ q
+  turns-of q r h = N.mul-add-div-right some q r ∙ ap (λ (k : ℕ). q + k) (N.div-eq-of-lt h) ∙ N.add-zero q
+
+  both : o / c * c + o % c ≡ o
+  both = N.div-add-mod' o c
+
+  pub past-next : (o % c + 1 ≡ c → ⊥) → ((o + 1) % c ≡ o % c + 1) × ((o + 1) / c ≡ o / c)
+  past-next q =
+      let r : o % c < c = N.mod-lt o some in
+      let l : o % c + 1 < c = below (ltb (o % c + 1) c) refl in
+      let e : o + 1 ≡ o / c * c + (o % c + 1) = omega (arith, both) in
+      (ap (λ (k : ℕ). k % c) e ∙ place-of (o / c) (o % c + 1) l, ap (λ (k : ℕ). k / c) e ∙ turns-of (o / c) (o % c + 1) l)
+    where
+      below : (t : Bool) → ltb (o % c + 1) c ≡ t → o % c + 1 < c
+      below true e = ltb-true (o % c + 1) c e
+      below false e = absurd (q (omega (arith, N.mod-lt o some, ltb-false (o % c + 1) c e)))
+
+  pub turn-next : o % c + 1 ≡ c → ((o + 1) % c ≡ 0) × ((o + 1) / c ≡ o / c + 1)
+  turn-next q =
+      let e : o + 1 ≡ (o / c + 1) * c + 0 = omega (arith, both, N.add-mul (o / c) 1 c, N.one-mul c) in
+      (ap (λ (k : ℕ). k % c) e ∙ place-of (o / c + 1) 0 (omega arith), ap (λ (k : ℕ). k / c) e ∙ turns-of (o / c + 1) 0 (omega arith))
+
+-- the entry of an offset within five columns
+pub turn-few : (o columns : ℕ) → 1 ≤ columns → o < 5 * columns → o / columns < 5
+turn-few o columns h k = N.div-lt-iff-lt-mul h .1 k

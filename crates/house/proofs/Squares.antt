@@ -15,10 +15,11 @@ use Rattle.whole.proofs.Sums.{sum-cong, sum-ext, sum-vanish}
 use Rattle.whole.proofs.Parts.{sum-one}
 use Rattle.whole.proofs.Rows.{only-same, only-other}
 use Rattle.rows.specs.Rows.{rowOf}
+use Rattle.jobs.specs.Job.{Job}
 use Rattle.certificate.specs.Differences.{Family, along, cellOf, coefficient, usedWith}
 use Rattle.certificate.proofs.Differences.{coefficient-at-place, coefficient-elsewhere, returned-by-row}
 use Rattle.house.specs.Band.{usesBoth, squaresAt}
-use Rattle.house.specs.Grid.{Grid, reach, downAt, acrossAt, weightAt, gridEntry}
+use Rattle.house.specs.Grid.{reach, downSquares, acrossSquares, weightAt, gridEntry}
 use Rattle.house.specs.Squares.{productsOf, acrossOf, downFamily, acrossFamily, LineSquares, DownSquares, AcrossSquares, GridEntries, GridBand}
 use Rattle.house.proofs.Spread.{squares-far, squares-before, neither}
 
@@ -177,7 +178,7 @@ module _ (c : ℕ) (some : 1 ≤ c) (rows z i : ℕ) (inside : i < rows * c) whe
       }
 
 pub down-squares : DownSquares
-down-squares g some j o h l = squares-by-differences (downFamily g) j (j / g .columns) (g .rows) o (down-stands (g .columns) some (g .rows) (g .down) j h) l
+down-squares g some j o h l = squares-by-differences (downFamily g) j (j / g .columns) (g .rows) o (down-stands (g .columns) some (g .rows) (g .order) j h) l
 
 -- ---- along the rows
 
@@ -251,21 +252,21 @@ unfolding gridEntry
 grid-entries g some j o h l =
     ap₂ (λ (x y : ℤ). ofInt binary64 (weightAt g j o +ℤ g .constant *ℤ x +ℤ g .second *ℤ y)) (down-squares g some j o h l) (across-squares g some j o h l)
 
-module _ (g : Grid) (some : 1 ≤ g .columns) (order : 1 ≤ g .down) (j o : ℕ) (far : reach g < o) where
+module _ (g : Job) (some : 1 ≤ g .columns) (order : 1 ≤ g .order) (j o : ℕ) (far : reach g < o) where
   past : g .columns < o
   past = N.lt-of-le-of-lt (subst (λ (k : ℕ). k ≤ reach g) (N.one-mul (g .columns)) (N.mul-le-mul-right (g .columns) order)) far
 
-  down-ends : downAt g j o ≡ pos 0
+  down-ends : downSquares g j o ≡ pos 0
   down-ends = go (eqb (o % g .columns) 0) refl
     where
-      go : (b : Bool) → eqb (o % g .columns) 0 ≡ b → (if b then squaresAt (g .rows) (g .down) (j / g .columns) (o / g .columns) else pos 0) ≡ pos 0
+      go : (b : Bool) → eqb (o % g .columns) 0 ≡ b → (if b then squaresAt (g .rows) (g .order) (j / g .columns) (o / g .columns) else pos 0) ≡ pos 0
       go true e =
           let turns : o / g .columns * g .columns ≡ o = omega (arith, N.div-add-mod' o (g .columns), eqb-true (o % g .columns) 0 e) in
-          let less : g .down * g .columns < o / g .columns * g .columns = omega arith in
-          squares-far (g .rows) (g .down) (j / g .columns) (o / g .columns) (N.lt-of-mul-lt-mul-right (g .columns) less)
+          let less : g .order * g .columns < o / g .columns * g .columns = omega arith in
+          squares-far (g .rows) (g .order) (j / g .columns) (o / g .columns) (N.lt-of-mul-lt-mul-right (g .columns) less)
       go false e = refl
 
-  whole-ends : weightAt g j o +ℤ g .constant *ℤ downAt g j o +ℤ g .second *ℤ acrossAt g j o ≡ pos 0
+  whole-ends : weightAt g j o +ℤ g .constant *ℤ downSquares g j o +ℤ g .second *ℤ acrossSquares g j o ≡ pos 0
   whole-ends =
       rw (ne-eqb o 0 (λ e. omega (arith, past)), down-ends, squares-before (g .columns) (g .across) (j % g .columns) o (omega (arith, past, N.mod-lt j some)))
       (sym (neither (g .constant) (g .second)))

@@ -42,9 +42,6 @@ zero64 = fin false 0 (pos 0)
 abbrev pub bandOf : Job → List (List Float)
 bandOf j = filled (λ i. entriesOf (j .weight i) (j .constant) (j .cells) (j .order) i) (j .cells) 0 (replicate 120 (replicate 5 zero64))
 
--- "Wu", of n cells, and zeros after the last.
-abbrev pub rightBy : (weight crude : ℕ → ℤ) (n : ℕ) → List Float
-rightBy weight crude n = filled (λ i. ofInt binary64 (weight i *ℤ crude i)) n 0 (replicate 120 zero64)
-
+-- "Wu", by cell, and zeros after the last.
 abbrev pub rightOf : Job → List Float
-rightOf j = rightBy (j .weight) (j .crude) (j .cells)
+rightOf j = filled (λ i. ofInt binary64 (j .weight i *ℤ j .crude i)) (j .cells) 0 (replicate 120 zero64)

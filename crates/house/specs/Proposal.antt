@@ -15,22 +15,21 @@ use Rattle.jobs.specs.Words.{jobOf}
 use Rattle.jobs.specs.Packs.{readJob, writeProposal}
 use Rattle.factor.specs.declared.Ending.{Ending}
 use Rattle.factor.specs.declared.Ending.the-variants.{Whole, Thin}
-use Rattle.house.specs.declared.proposal.Solved.{Solved}
 use Rattle.house.specs.Filled.{filled}
 use Rattle.house.specs.Band.{bandOf, rightOf}
-use Rattle.house.specs.Factoring.{rowsOf, solvedWith}
-use Rattle.house.specs.Grid.{gridIn, gridSolved}
+use Rattle.house.specs.Factoring.{Solved, rowsOf, solvedWith}
+use Rattle.house.specs.Grid.{gridSolved}
 use Rattle.house.specs.Rounding.{roundedOut}
 
 -- "It solves (W + kK'K)v = Wu in f64, links ignored": the values before rounding, where no pivot is thin, of a job that is no grid.
 unfoldable pub lineSolved : Job → Solved
 unfolding solvedWith
-lineSolved j = solvedWith 4 (rowsOf (bandOf j)) (j .order) (j .cells) (rightOf j)
+lineSolved j = solvedWith 480 (rowsOf (bandOf j)) (j .order) (j .cells) (rightOf j)
 
 -- The same of any job: "by 01's steps with z there the order down times the columns" where it is a grid.
 unfoldable pub solvedOf : Job → Solved
 unfolding lineSolved gridSolved
-solvedOf j = if j .grid then gridSolved (gridIn j) else lineSolved j
+solvedOf j = if j .grid then gridSolved j else lineSolved j
 
 -- "grids of at most 12 columns"
 abbrev pub mostColumns : ℕ

@@ -5,9 +5,10 @@ use lib.IntN.{ℤ, _+ℤ_, _*ℤ_}
 use lib.Ieee.{binary64, ofInt}
 use Rattle.whole.specs.Sum.{sum}
 use Rattle.rows.specs.Rows.{rowOf}
+use Rattle.jobs.specs.Job.{Job}
 use Rattle.certificate.specs.Differences.{Family, along, coefficient}
 use Rattle.house.specs.Band.{squaresAt, zero64}
-use Rattle.house.specs.Grid.{Grid, cells, reach, downAt, acrossAt, weightAt, gridEntry}
+use Rattle.house.specs.Grid.{reach, downSquares, acrossSquares, weightAt, gridEntry}
 
 -- K'K at (i, k), where the rows of K are the differences of a family
 abbrev pub productsOf : Family → (i k : ℕ) → ℤ
@@ -24,12 +25,12 @@ acrossOf row order rows columns =
       start = λ f. f / (columns - order) * columns + f % (columns - order);
     }
 
--- the differences down the columns, whose stride is the columns, and those along the rows
-abbrev pub downFamily : Grid → Family
-downFamily g = along (rowOf (g .down)) (g .down) (g .columns) (cells g - g .down * g .columns)
+-- The differences down the columns, whose stride is the columns, and those along the rows.
+abbrev pub downFamily : Job → Family
+downFamily j = along (rowOf (j .order)) (j .order) (j .columns) (j .rows * j .columns - j .order * j .columns)
 
-abbrev pub acrossFamily : Grid → Family
-acrossFamily g = acrossOf (rowOf (g .across)) (g .across) (g .rows) (g .columns)
+abbrev pub acrossFamily : Job → Family
+acrossFamily j = acrossOf (rowOf (j .across)) (j .across) (j .rows) (j .columns)
 
 -- a line of n cells: "D at i, for i from 0 to n-z-1"
 abbrev pub LineSquares : Type 0
@@ -37,18 +38,18 @@ LineSquares = (n z i o : ℕ) → o ≤ i → squaresAt n z i o ≡ productsOf (
 
 -- "k times the squared differences down the columns"
 abbrev pub DownSquares : Type 0
-DownSquares = (g : Grid) → 1 ≤ g .columns → (j o : ℕ) → j < cells g → o ≤ j → downAt g j o ≡ productsOf (downFamily g) j (j - o)
+DownSquares = (j : Job) → 1 ≤ j .columns → (i o : ℕ) → i < j .rows * j .columns → o ≤ i → downSquares j i o ≡ productsOf (downFamily j) i (i - o)
 
 -- "and the second constant times those along the rows"
 abbrev pub AcrossSquares : Type 0
-AcrossSquares = (g : Grid) → 1 ≤ g .columns → (j o : ℕ) → j < cells g → o ≤ j → acrossAt g j o ≡ productsOf (acrossFamily g) j (j - o)
+AcrossSquares = (j : Job) → 1 ≤ j .columns → (i o : ℕ) → i < j .rows * j .columns → o ≤ i → acrossSquares j i o ≡ productsOf (acrossFamily j) i (i - o)
 
 -- An entry of A by the differences of both directions: W + k·Kd'Kd + k2·Ka'Ka, whole and cast.
 abbrev pub GridEntries : Type 0
 GridEntries =
-    (g : Grid) → 1 ≤ g .columns → (j o : ℕ) → j < cells g → o ≤ j
-    → gridEntry g j o ≡ ofInt binary64 (weightAt g j o +ℤ g .constant *ℤ productsOf (downFamily g) j (j - o) +ℤ g .second *ℤ productsOf (acrossFamily g) j (j - o))
+    (j : Job) → 1 ≤ j .columns → (i o : ℕ) → i < j .rows * j .columns → o ≤ i
+    → gridEntry j i o ≡ ofInt binary64 (weightAt j i o +ℤ j .constant *ℤ productsOf (downFamily j) i (i - o) +ℤ j .second *ℤ productsOf (acrossFamily j) i (i - o))
 
 -- "z there the order down times the columns": A has nothing beyond it.
 abbrev pub GridBand : Type 0
-GridBand = (g : Grid) → 1 ≤ g .columns → 1 ≤ g .down → (j o : ℕ) → reach g < o → gridEntry g j o ≡ zero64
+GridBand = (j : Job) → 1 ≤ j .columns → 1 ≤ j .order → (i o : ℕ) → reach j < o → gridEntry j i o ≡ zero64

@@ -1,5 +1,6 @@
 // The band of A = W + kK'K and the right side Wu: whole numbers, cast exactly.
 use factor::CELLS;
+use jobs::words::cells_of;
 use jobs::words::constant_of;
 use jobs::words::crude_at;
 use jobs::words::weight_at;
@@ -7,10 +8,11 @@ ghost use mathlib.Core.Path.{_≡_};
 ghost use Prim.Native.Nat.{_≤_, _<_};
 ghost use lib.IntN.{natAbs, _*ℤ_};
 ghost use lib.Ieee.{binary64, ofInt};
+ghost use lib.ListN.{replicate};
 ghost use Rattle.jobs.specs.Words.{jobOf, cellsOf};
 ghost use Rattle.rows.specs.Rows.{IsRow};
 ghost use Rattle.house.specs.Known.{Known};
-ghost use Rattle.house.specs.Band.{productTerm, squaresAt, wholeEntry, entriesOf, bandOf, rightOf};
+ghost use Rattle.house.specs.Band.{productTerm, squaresAt, wholeEntry, entriesOf, zero64, bandOf, rightOf};
 
 fn cast(x: i64) -> f64
     requires { ⌜ natAbs x ≤ 1000000000 ⌝ }
@@ -110,12 +112,12 @@ fn right_at(w: i64, u: i64) -> f64
     cast(w * u)
 }
 
-// The right side of a job, by cell.
-pub fn right(words: &[i64], n: usize) -> [f64; CELLS]
-    requires { ⌜ Known (now words) × (n ≡ cellsOf (now words)) ⌝ }
-    ensures { λ r. ⌜ r ≡ rightOf (jobOf (now (words .entry))) ⌝ }
+// The right side of a job, by cell, into a list of zeros.
+pub fn right(words: &[i64], made: &mut [f64; CELLS])
+    requires { ⌜ Known (now words) × (now made ≡ replicate 120 zero64) ⌝ }
+    ensures { λ _. ⌜ now (made .exit) ≡ rightOf (jobOf (now (words .entry))) ⌝ }
 {
-    let mut made = [0.0; CELLS];
+    let n = cells_of(words);
     let mut i = 0;
     while i < n {
         let w = weight_at(words, i);
@@ -123,5 +125,4 @@ pub fn right(words: &[i64], n: usize) -> [f64; CELLS]
         made[i] = right_at(w, u);
         i += 1;
     }
-    made
 }

@@ -2,16 +2,21 @@
 use factor::CELLS;
 use factor::Ending;
 use factor::Pivot;
+use factor::STARTS;
 use factor::factor_row;
+use factor::lowest_of;
 use factor::put_row;
+use factor::start_at;
 use factor::value_of;
 ghost use mathlib.Core.Path.{_≡_};
-ghost use Prim.Native.Nat.{_≤_, _<_};
-ghost use lib.ListN.{length};
-ghost use Rattle.factor.specs.Factor.{factorStep, factorFrom};
+ghost use Prim.Native.Nat.{_+_, _-_, _≤_, _<_};
+ghost use lib.ListN.{length, take};
+ghost use lib.Seq.{sets};
+ghost use Rattle.factor.specs.Factor.{lowest, startOf, factorStep, factorFrom};
+ghost use Rattle.factor.specs.Places.{Placed};
 ghost use Rattle.house.specs.Factoring.{rowsOf, answered};
 
-// The multipliers of a row, and the places of all rows.
+// The most multipliers of a row, and the most of all rows.
 pub const WIDTH: usize = 4;
 
 pub const PLACES: usize = 480;
@@ -28,12 +33,21 @@ pub struct Step {
 }
 
 // One step of the factoring: row j, with its pivot accepted or thin.
-pub fn factor_step(entries: [f64; 5], d: &[f64; CELLS], l: &[f64], j: usize, z: usize) -> Step
-    requires { ⌜ (j < 120) × (z ≤ 4) × (480 ≤ length (now l)) ⌝ }
-    ensures { λ r. ⌜ r ≡ answered (factorStep 4 entries (now (d .entry)) (now (l .entry)) z j) ⌝ }
+pub fn factor_step(
+    entries: [f64; 5],
+    d: &[f64; CELLS],
+    l: &[f64],
+    starts: &[u16; STARTS],
+    j: usize,
+    z: usize,
+) -> Step
+    requires { ⌜ (j < 120) × (z ≤ 4) × Placed z j (now starts) (now l) ⌝ }
+    ensures { λ r. ⌜ r ≡ answered (factorStep entries (now (d .entry)) (now (l .entry)) z j) ⌝ }
 {
     let mut multipliers = [0.0; WIDTH];
-    let pivot = factor_row(&entries, d, l, WIDTH, j, z, &mut multipliers);
+    let lo = lowest_of(j, z);
+    let count = j - lo;
+    let pivot = factor_row(&entries, d, l, starts, j, z, &mut multipliers[0..count]);
     let x = value_of(pivot);
     let row = Row {
         pivot: x,
@@ -42,26 +56,37 @@ pub fn factor_step(entries: [f64; 5], d: &[f64; CELLS], l: &[f64], j: usize, z: 
     Step { pivot, row }
 }
 
+// Row j to its places among the multipliers of all rows.
+fn put_made(lj: &[f64], l: &mut [f64], starts: &[u16; STARTS], j: usize, z: usize)
+    requires { ⌜ (j < 120) × (z ≤ 4) × Placed z (j + 1) (now starts) (now l) × (length (now lj) ≡ 4) ⌝ }
+    ensures { λ _. ⌜ now (l .exit) ≡ sets (now (l .entry)) (startOf z j) (take (j - lowest j z) (now (lj .entry))) ⌝ }
+{
+    let lo = lowest_of(j, z);
+    let count = j - lo;
+    let at = start_at(starts, j);
+    put_row(&lj[0..count], l, at);
+}
+
 // The factor of the first n rows of a band, into lent pivots and multipliers: the rows made stand there, cell by cell.
 pub fn factor_band(
     band: [[f64; 5]; CELLS],
     n: usize,
     z: usize,
+    starts: &[u16; STARTS],
     d: &mut [f64; CELLS],
     l: &mut [f64],
 ) -> Ending
-    requires { ⌜ (n ≤ 120) × (z ≤ 4) × (480 ≤ length (now l)) ⌝ }
-    ensures { λ r. ⌜ (r ≡ factorFrom 4 (rowsOf band) z n 0 (now (d .entry)) (now (l .entry)) .ending) × (now (d .exit) ≡ factorFrom 4 (rowsOf band) z n 0 (now (d .entry)) (now (l .entry)) .pivots) × (now (l .exit) ≡ factorFrom 4 (rowsOf band) z n 0 (now (d .entry)) (now (l .entry)) .multipliers) ⌝ }
+    requires { ⌜ (n ≤ 120) × (z ≤ 4) × Placed z n (now starts) (now l) ⌝ }
+    ensures { λ r. ⌜ (r ≡ factorFrom (rowsOf band) z n 0 (now (d .entry)) (now (l .entry)) .ending) × (now (d .exit) ≡ factorFrom (rowsOf band) z n 0 (now (d .entry)) (now (l .entry)) .pivots) × (now (l .exit) ≡ factorFrom (rowsOf band) z n 0 (now (d .entry)) (now (l .entry)) .multipliers) ⌝ }
 {
     let mut j = 0;
     while j < n {
         let entries = band[j];
-        let step = factor_step(entries, d, l, j, z);
+        let step = factor_step(entries, d, l, starts, j, z);
         let row = step.row;
         d[j] = row.pivot;
         let lj = row.multipliers;
-        let at = WIDTH * j;
-        put_row(&lj, l, at);
+        put_made(&lj, l, starts, j, z);
         let pivot = step.pivot;
         match pivot {
             Pivot::Thin(failed) => {

@@ -2,16 +2,15 @@
 use crate::band::band;
 use crate::band::right;
 use crate::factoring::PLACES;
-use crate::factoring::WIDTH;
 use crate::factoring::factor_band;
 use crate::grid::solve_grid;
 use crate::rounding::round_out;
 use factor::CELLS;
 use factor::Ending;
-use factor::solve::solve;
+use factor::solve::solve_whole;
+use factor::starts_of;
 use fields::Field;
 use jobs::job::JOB_WORDS;
-use jobs::proposal::PROPOSAL_WORDS;
 use jobs::words::ceiling_at;
 use jobs::words::cells_of;
 use jobs::words::columns_of;
@@ -26,56 +25,29 @@ ghost use lib.IntN.{pos};
 ghost use lib.Ieee.{nan};
 ghost use lib.ListN.{length, getD, replicate};
 ghost use lib.Seq.{sets};
-ghost use Rattle.jobs.specs.Words.{jobOf, cellsOf, columnsOf};
+ghost use Rattle.jobs.specs.Words.{jobOf, cellsOf, columnsOf, orderOf};
 ghost use Rattle.house.specs.Known.{Known};
 ghost use Rattle.house.specs.Filled.{filled};
+ghost use Rattle.house.specs.Band.{rightOf};
+ghost use Rattle.house.specs.Grid.{gridSolved};
+ghost use Rattle.house.specs.Held.{Narrow};
 ghost use Rattle.house.specs.Proposal.{lineSolved, solvedOf, valueOf, writtenOf, proposedOf, proposeOf};
 
-// How the factoring ends, and the values before rounding; zeros where it is thin.
-pub struct Solved {
-    pub ending: Ending,
-    pub values: [f64; CELLS],
-}
+// The most columns of a grid.
+const COLUMNS: usize = 12;
 
-// The same for a job that is no grid.
-fn solve_line(words: &[i64]) -> Solved
-    requires { ⌜ Known (now words) ⌝ }
-    ensures { λ r. ⌜ r ≡ lineSolved (jobOf (now (words .entry))) ⌝ }
+// How the factoring of a line ends; where it is whole, the values before rounding come in place of the right side.
+fn solve_line(words: &[i64], z: usize, v: &mut [f64; CELLS]) -> Ending
+    requires { ⌜ Known (now words) × (z ≡ orderOf (now words)) × (now v ≡ rightOf (jobOf (now words))) ⌝ }
+    ensures { λ r. ⌜ (r ≡ lineSolved (jobOf (now (words .entry))) .ending) × (now (v .exit) ≡ lineSolved (jobOf (now (words .entry))) .values) ⌝ }
 {
     let n = cells_of(words);
-    let z = order_of(words);
     let a = band(words, n, z);
+    let starts = starts_of(n, z);
     let mut d = [0.0; CELLS];
     let mut l = [0.0; PLACES];
-    let ending = factor_band(a, n, z, &mut d, &mut l);
-    match ending {
-        Ending::Thin(cell, pivot) => {
-            let values = [0.0; CELLS];
-            Solved {
-                ending: Ending::Thin(cell, pivot),
-                values,
-            }
-        }
-        Ending::Whole => {
-            let b = right(words, n);
-            let values = solve(&d, &l, WIDTH, b, n, z);
-            Solved {
-                ending: Ending::Whole,
-                values,
-            }
-        }
-    }
-}
-
-// A job that is no grid has one column.
-fn solve_job(words: &[i64], columns: usize) -> Solved
-    requires { ⌜ Known (now words) × (columns ≡ columnsOf (now words)) × (columns ≤ 12) ⌝ }
-    ensures { λ r. ⌜ r ≡ solvedOf (jobOf (now (words .entry))) ⌝ }
-{
-    if columns == 1 {
-        return solve_line(words);
-    }
-    solve_grid(words)
+    let ending = factor_band(a, n, z, &starts, &mut d, &mut l);
+    solve_whole(ending, &d, &l, &starts, v, n, z)
 }
 
 // v rounded out into the box of the cell i.
@@ -88,12 +60,12 @@ fn value_at(words: &[i64], i: usize, v: f64) -> i64
     round_out(v, lo, hi) as i64
 }
 
-// The words of a proposal: the values rounded out, and zeros after them.
-fn values_of(words: &[i64], n: usize, v: &[f64; CELLS]) -> [i64; PROPOSAL_WORDS]
+// The values of a proposal, rounded out.
+fn values_of(words: &[i64], n: usize, v: &[f64; CELLS]) -> [i64; CELLS]
     requires { ⌜ Known (now words) × (n ≡ cellsOf (now words)) ⌝ }
-    ensures { λ r. ⌜ r ≡ filled (λ i. valueOf (jobOf (now (words .entry))) i (getD (now (v .entry)) i nan)) n 0 (replicate 280 (pos 0)) ⌝ }
+    ensures { λ r. ⌜ r ≡ filled (λ i. valueOf (jobOf (now (words .entry))) i (getD (now (v .entry)) i nan)) n 0 (replicate 120 (pos 0)) ⌝ }
 {
-    let mut made = [0i64; PROPOSAL_WORDS];
+    let mut made = [0i64; CELLS];
     let mut i = 0;
     while i < n {
         let x = v[i];
@@ -103,15 +75,50 @@ fn values_of(words: &[i64], n: usize, v: &[f64; CELLS]) -> [i64; PROPOSAL_WORDS]
     made
 }
 
-fn write_values(words: &[i64], v: [f64; CELLS], out: &mut [u8]) -> Outcome
+// The multipliers are zeros after the values, which take no words of their own.
+fn write_values(words: &[i64], v: &[f64; CELLS], out: &mut [u8]) -> Outcome
     requires { ⌜ Known (now words) ⌝ }
-    ensures { λ r. ⌜ (r ≡ writtenOf (length (now (out .entry))) (jobOf (now (words .entry))) v .outcome) × (now (out .exit) ≡ sets (now (out .entry)) 0 (writtenOf (length (now (out .entry))) (jobOf (now (words .entry))) v .bytes)) ⌝ }
+    ensures { λ r. ⌜ (r ≡ writtenOf (length (now (out .entry))) (jobOf (now (words .entry))) (now (v .entry)) .outcome) × (now (out .exit) ≡ sets (now (out .entry)) 0 (writtenOf (length (now (out .entry))) (jobOf (now (words .entry))) (now (v .entry)) .bytes)) ⌝ }
 {
     let n = cells_of(words);
     let links = links_of(words, n);
-    let values = values_of(words, n, &v);
-    let count = n + links;
-    packs::writing::put(&values[0..count], out)
+    let values = values_of(words, n, v);
+    packs::writing::put_padded(&values[0..n], links, out)
+}
+
+// The same of a low order, and a grid of a small reach. A function that is called from one place only is compiled into its caller, with its room on the
+// stack; with these, the two that need room are called from two places, and a line does not pay for a grid's room, nor a grid for a line's.
+fn solve_low_line(words: &[i64], z: usize, v: &mut [f64; CELLS]) -> Ending
+    requires { ⌜ Known (now words) × (z ≡ orderOf (now words)) × (now v ≡ rightOf (jobOf (now words))) ⌝ }
+    ensures { λ r. ⌜ (r ≡ lineSolved (jobOf (now (words .entry))) .ending) × (now (v .exit) ≡ lineSolved (jobOf (now (words .entry))) .values) ⌝ }
+{
+    solve_line(words, z, v)
+}
+
+fn solve_small_grid(words: &[i64], z: usize, v: &mut [f64; CELLS]) -> Ending
+    requires { ⌜ Narrow (now words) z × (now v ≡ rightOf (jobOf (now words))) ⌝ }
+    ensures { λ r. ⌜ (r ≡ gridSolved (jobOf (now (words .entry))) .ending) × (now (v .exit) ≡ gridSolved (jobOf (now (words .entry))) .values) ⌝ }
+{
+    solve_grid(words, z, v)
+}
+
+// The values before rounding of any job, in place of its right side. A job that is no grid has one column.
+fn solve_job(words: &[i64], columns: usize, v: &mut [f64; CELLS]) -> Ending
+    requires { ⌜ Known (now words) × (columns ≡ columnsOf (now words)) × (columns ≤ 12) × (now v ≡ rightOf (jobOf (now words))) ⌝ }
+    ensures { λ r. ⌜ (r ≡ solvedOf (jobOf (now (words .entry))) .ending) × (now (v .exit) ≡ solvedOf (jobOf (now (words .entry))) .values) ⌝ }
+{
+    let order = order_of(words);
+    if columns == 1 {
+        if order <= 2 {
+            return solve_low_line(words, order, v);
+        }
+        return solve_line(words, order, v);
+    }
+    let z = order * columns;
+    if z <= 12 {
+        return solve_small_grid(words, z, v);
+    }
+    solve_grid(words, z, v)
 }
 
 // The proposal for the words of a job that was read.
@@ -120,22 +127,19 @@ pub fn propose_for(words: &[i64], out: &mut [u8]) -> Outcome
     ensures { λ r. ⌜ (r ≡ proposedOf (length (now (out .entry))) (jobOf (now (words .entry))) .outcome) × (now (out .exit) ≡ sets (now (out .entry)) 0 (proposedOf (length (now (out .entry))) (jobOf (now (words .entry))) .bytes)) ⌝ }
 {
     let columns = columns_of(words);
-    if 12 < columns {
+    if COLUMNS < columns {
         return Outcome::Refused(20, 0);
     }
-    let solved = solve_job(words, columns);
-    let ending = solved.ending;
+    let mut v = [0.0; CELLS];
+    right(words, &mut v);
+    let ending = solve_job(words, columns, &mut v);
     match ending {
         Ending::Thin(cell, _) => Outcome::Refused(10, cell),
-        Ending::Whole => {
-            let v = solved.values;
-            write_values(words, v, out)
-        }
+        Ending::Whole => write_values(words, &v, out),
     }
 }
 
-// The house proposal for a job pack. A refusal writes nothing; room is tested last. A call takes about 84 KB of stack (84,256 bytes compiled at -O3
-// on aarch64, for a line too), of which a grid's multipliers are 46,080, the job's words 16,736 and the two lists of a grid's band 9,600.
+// The house proposal for a job pack. A refusal writes nothing; room is tested last.
 pub fn propose(job: &[u8], out: &mut [u8]) -> Outcome
     ensures { λ r. ⌜ (r ≡ proposeOf (length (now (out .entry))) (now (job .entry)) .outcome) × (now (out .exit) ≡ sets (now (out .entry)) 0 (proposeOf (length (now (out .entry))) (now (job .entry)) .bytes)) ⌝ }
 {

@@ -1,8 +1,9 @@
 -- The multipliers and the pivot are those of the definition, and its answer is judged.
-use mathlib.Core.Path.{ap, _∙_}
+use mathlib.Core.Path.{sym, ap, _∙_}
 use native.Mathlib.Omega.{arith}
-use Prim.Native.Nat.{_-_}
+use Prim.Native.Nat.{ℕ, _-_}
 use lib.ListN.{length}
+use Rattle.factor.specs.Factor.{lowest}
 use Rattle.factor.proofs.Turns.{length-row, blank-length, step-is}
 use borrow.Author.Needs.{needs}
 use Rattle.factor.proofs.factor_row.Statement.{statement}
@@ -15,7 +16,7 @@ multipliers-into-requires : tie.Need-multipliers-into-requires
 multipliers-into-requires c κs =
     let s = c .before .before .before .before .before in
     let low = c .before .lowest-of .ensures in
-    (omega arith, omega arith, omega arith, omega arith, omega arith, omega arith, blank-length (s .args .width) (s .pre .5))
+    (low, s .pre .0, s .pre .1, s .pre .2, blank-length (s .args .j - lowest (s .args .j) (s .args .z)) (s .pre .3) ∙ ap (λ (k : ℕ). s .args .j - k) (sym low))
 
 shared-slice-read-less-products : tie.Need-shared-slice-read-less-products
 shared-slice-read-less-products c = search needs
@@ -26,9 +27,9 @@ less-products-requires c κs =
     let a = s .args in
     let lo = c .before .before .before .before .before .before .lowest-of .result in
     let low = c .before .before .before .before .before .before .lowest-of .ensures in
-    let len = length-row (a .width) (a .entries .now) (a .d .now) (a .l .now) (a .j) lo (a .j - lo) lo (a .made .now) in
+    let len = length-row (a .z) (a .entries .now) (a .d .now) (a .l .now) (a .j) lo (a .j - lo) lo (a .made .now) in
     let kept = ap length (c .before .before .before .before .multipliers-into .ensures) in
-    let blank = blank-length (a .width) (s .pre .5) in
+    let blank = blank-length (a .j - lowest (a .j) (a .z)) (s .pre .3) in
     (omega arith, omega arith, omega arith, omega arith, omega arith)
 
 judge-requires : tie.Need-judge-requires
@@ -41,7 +42,7 @@ returns : tie.Need-returns
 returns c =
     let s = c .before .before .before .before .before .before .before .before .before .before .before .before in
     let a = s .args in
-    let q = step-is (a .width) (a .entries .now) (a .d .now) (a .l .now) (a .z) (a .j) (c .before .before .before .before .before .before .before .before .lowest-of .ensures) (s .pre .5) (c .before .before .before .before .before .before .multipliers-into .ensures) (c .before .less-products .ensures) in
+    let q = step-is (a .entries .now) (a .d .now) (a .l .now) (a .z) (a .j) (c .before .before .before .before .before .before .before .before .lowest-of .ensures) (s .pre .3) (c .before .before .before .before .before .before .multipliers-into .ensures) (c .before .less-products .ensures) in
     (c .judge .ensures ∙ q .0, q .1)
 
 pub factor-row-spec : {M : Type 1} → statement M

@@ -6,23 +6,23 @@ use lib.Ieee.{Float, binary64, sub, mul, nan}
 use lib.ListN.{getD}
 use Rattle.factor.specs.Factor.{lessBy}
 use Rattle.factor.specs.Solve.{upperTerm}
-use Rattle.factor.proofs.Turns.{less-more, less-done, row-inside, row-small, multiplier-read}
+use Rattle.factor.proofs.Turns.{less-more, less-done, read-inside, multiplier-read}
 use borrow.Author.Needs.{needs}
 use Rattle.factor.proofs.solve.less_upper.Statement.{statement}
 use Rattle.factor.proofs.solve.less_upper.Tie as tie
 
 abbrev Inv-loop : tie.InvT-loop
-Inv-loop l width v x j top rest₀ m₀ rest m = (j < m) × (m ≤ top + 1) × (lessBy (upperTerm width l j v) m (top + 1 - m) rest ≡ lessBy (upperTerm width l j v) (j + 1) (top - j) x)
+Inv-loop l starts z v x j top rest₀ m₀ rest m = (j < m) × (m ≤ top + 1) × (lessBy (upperTerm z l j v) m (top + 1 - m) rest ≡ lessBy (upperTerm z l j v) (j + 1) (top - j) x)
 
 abbrev μ-loop : tie.MeasureT-loop
-μ-loop l width v x j top rest₀ m₀ rest m = top + 1 - m
+μ-loop l starts z v x j top rest₀ m₀ rest m = top + 1 - m
 
 add-m : tie.Need-add-m Inv-loop μ-loop
 add-m c = search needs
 
 loop-holds : tie.Need-loop-holds Inv-loop μ-loop
 loop-holds c =
-    let a = c .args in
+    let a = c .before .args in
     let e : a .top + 1 - (a .j + 1) ≡ a .top - a .j = omega arith in
     (omega arith, omega arith, rw e)
 
@@ -32,17 +32,25 @@ sub-p c = search needs
 sub-p-2 : tie.Need-sub-p-2 Inv-loop μ-loop
 sub-p-2 c = search needs
 
-mul-at : tie.Need-mul-at Inv-loop μ-loop
-mul-at c = let r = row-small (c .before .before .args .width) (c .before .loop .m) (omega arith) (c .before .before .pre .3) in search needs
+start-at-requires : tie.Need-start-at-requires Inv-loop μ-loop
+start-at-requires c κs = search needs
 
 add-place : tie.Need-add-place Inv-loop μ-loop
-add-place c = let r = row-small (c .before .before .args .width) (c .before .loop .m) (omega arith) (c .before .before .pre .3) in search needs
+add-place c =
+    let s = c .before .before .before .before in
+    let r = read-inside (s .pre .3) (c .before .before .loop .m) (s .args .j) (omega arith) (omega arith) (omega arith) (c .start-at .ensures .0) in
+    search needs
 
 mul-rest : tie.Need-mul-rest Inv-loop μ-loop
-mul-rest c = let r = row-small (c .before .before .args .width) (c .before .loop .m) (omega arith) (c .before .before .pre .3) in search needs
+mul-rest c =
+    let s = c .before .before .before .before in
+    let r = read-inside (s .pre .3) (c .before .before .loop .m) (s .args .j) (omega arith) (omega arith) (omega arith) (c .start-at .ensures .0) in
+    search needs
 
 shared-slice-read-rest : tie.Need-shared-slice-read-rest Inv-loop μ-loop
-shared-slice-read-rest c = let r = row-inside (c .before .before .before .args .width) (c .before .before .loop .m) (omega arith) in omega arith
+shared-slice-read-rest c =
+    let s = c .before .before .before .before .before in
+    read-inside (s .pre .3) (c .before .before .before .loop .m) (s .args .j) (omega arith) (omega arith) (omega arith) (c .before .start-at .ensures .0)
 
 mul-rest-2 : tie.Need-mul-rest-2 Inv-loop μ-loop
 mul-rest-2 c = search needs
@@ -58,11 +66,12 @@ loop-less c = search needs
 
 loop-again : tie.Need-loop-again Inv-loop μ-loop
 loop-again c =
-    let head = c .before .before .before in
-    let a = head .before .args in
+    let head = c .before .before .before .before in
+    let s = c .before .before .before .before .before .before in
+    let a = s .args in
     let m = head .loop .m in
-    let read = multiplier-read (a .width) (a .l .now) m (a .j) (omega arith) (omega arith) in
-    let t = upperTerm (a .width) (a .l .now) (a .j) (a .v .now) in (
+    let read = multiplier-read (s .pre .3) m (a .j) (omega arith) (omega arith) (omega arith) (c .before .before .start-at .ensures .0) in
+    let t = upperTerm (a .z) (a .l .now) (a .j) (a .v .now) in (
       omega arith,
       omega arith,
       ap (λ (x : Float). lessBy t (m + 1) (a .top + 1 - (m + 1)) (sub binary64 (head .loop .rest) (mul binary64 x (getD (a .v .now) m nan)))) read
@@ -72,8 +81,8 @@ loop-again c =
 returns : tie.Need-returns Inv-loop μ-loop
 returns c =
     let head = c .before in
-    let a = head .before .args in
-    sym (less-done (upperTerm (a .width) (a .l .now) (a .j) (a .v .now)) (head .loop .m) (a .top + 1) (head .loop .rest) (omega arith)) ∙ head .loop .inv .2
+    let a = head .before .before .args in
+    sym (less-done (upperTerm (a .z) (a .l .now) (a .j) (a .v .now)) (head .loop .m) (a .top + 1) (head .loop .rest) (omega arith)) ∙ head .loop .inv .2
 
 pub less-upper-spec : {M : Type 1} → statement M
 less-upper-spec =
@@ -85,7 +94,7 @@ less-upper-spec =
     loop-holds
     sub-p
     sub-p-2
-    mul-at
+    start-at-requires
     add-place
     mul-rest
     shared-slice-read-rest

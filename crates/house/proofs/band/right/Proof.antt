@@ -19,40 +19,41 @@ abbrev products : List ℤ → ℕ → Float
 products ws i = ofInt binary64 (jobOf ws .weight i *ℤ jobOf ws .crude i)
 
 abbrev Inv-loop : tie.InvT-loop
-Inv-loop words n made₀ i₀ made i = (i ≤ n) × (filled (products words) (n - i) i made ≡ filled (products words) n 0 made₀)
+Inv-loop words made₀ n i₀ made i = (i ≤ n) × (filled (products words) (n - i) i made ≡ filled (products words) n 0 made₀)
 
 abbrev μ-loop : tie.MeasureT-loop
-μ-loop words n made₀ i₀ made i = n - i
+μ-loop words made₀ n i₀ made i = n - i
+
+cells-of-requires : tie.Need-cells-of-requires Inv-loop μ-loop
+cells-of-requires c κs = search needs
 
 loop-holds : tie.Need-loop-holds Inv-loop μ-loop
 loop-holds c =
-    let e : c .args .n - 0 ≡ c .args .n = omega arith in
+    let n = c .cells-of .result in
+    let e : n - 0 ≡ n = omega arith in
     (omega arith, rw e)
 
 weight-at-requires : tie.Need-weight-at-requires Inv-loop μ-loop
-weight-at-requires c κs = let s = c .before .before in (s .pre .0 .allowed, (s .pre .0 .laid, omega (arith, s .pre .1)))
+weight-at-requires c κs = let s = c .before .before .before in (s .pre .0 .allowed, (s .pre .0 .laid, omega (arith, c .before .before .cells-of .ensures)))
 
 crude-at-requires : tie.Need-crude-at-requires Inv-loop μ-loop
-crude-at-requires c κs = let s = c .before .before .before in (s .pre .0 .allowed, (s .pre .0 .laid, omega (arith, s .pre .1)))
+crude-at-requires c κs = let s = c .before .before .before .before in (s .pre .0 .allowed, (s .pre .0 .laid, omega (arith, c .before .before .before .cells-of .ensures)))
 
 right-at-requires : tie.Need-right-at-requires Inv-loop μ-loop
 right-at-requires c κs =
-    let w = c .before in
-    let head = w .before .before in
-    let s = head .before in
+    let s = c .before .before .before .before .before in
     let ws = s .args .words .now in
-    let i = head .loop .i in
-    let h : i < cellsOf ws = omega (arith, s .pre .1) in
-    rw (weight-is (s .pre .0) h (w .weight-at .ensures), crude-is (s .pre .0) h (c .crude-at .ensures)) (weight-small (s .pre .0) h, crude-small (s .pre .0) h)
+    let h : c .before .before .before .loop .i < cellsOf ws = omega (arith, c .before .before .before .before .cells-of .ensures) in
+    rw (weight-is (s .pre .0) h (c .before .weight-at .ensures), crude-is (s .pre .0) h (c .crude-at .ensures)) (weight-small (s .pre .0) h, crude-small (s .pre .0) h)
 
 mul-made : tie.Need-mul-made Inv-loop μ-loop
-mul-made c = let few = cells-few (c .before .before .before .before .before .pre .0) in search needs
+mul-made c = let few = cells-few (c .before .before .before .before .before .before .pre .0) in search needs
 
-array-write-made : tie.Need-array-write-made Inv-loop μ-loop
-array-write-made c = let few = cells-few (c .before .before .before .before .before .pre .0) in search needs
+element-write-made : tie.Need-element-write-made Inv-loop μ-loop
+element-write-made c = let few = cells-few (c .before .before .before .before .before .before .pre .0) in search needs
 
 add-i : tie.Need-add-i Inv-loop μ-loop
-add-i c = let few = cells-few (c .before .before .before .before .before .pre .0) in search needs
+add-i c = let few = cells-few (c .before .before .before .before .before .before .pre .0) in search needs
 
 loop-less : tie.Need-loop-less Inv-loop μ-loop
 loop-less c = search needs
@@ -60,25 +61,25 @@ loop-less c = search needs
 loop-again : tie.Need-loop-again Inv-loop μ-loop
 loop-again c =
     let head = c .before .before .before .before in
-    let s = head .before in
+    let n = head .before .cells-of in
+    let s = head .before .before in
     let ws = s .args .words .now in
     let i = head .loop .i in
     let made = head .loop .made in
-    let h : i < cellsOf ws = omega (arith, s .pre .1) in
+    let h : i < cellsOf ws = omega (arith, n .ensures) in
     let e : c .right-at .result ≡ products ws i = c .right-at .ensures ∙ ap (ofInt binary64) (ap₂ _*ℤ_ (weight-is (s .pre .0) h (c .before .before .weight-at .ensures)) (crude-is (s .pre .0) h (c .before .crude-at .ensures))) in (
       omega arith,
-      ap (λ (x : Float). filled (products ws) (s .args .n - (i + 1)) (i + 1) (set made i x)) e
-          ∙ sym (filled-more (products ws) i (s .args .n) made (omega arith)) ∙ head .loop .inv .1,
+      ap (λ (x : Float). filled (products ws) (n .result - (i + 1)) (i + 1) (set made i x)) e
+          ∙ sym (filled-more (products ws) i (n .result) made (omega arith)) ∙ head .loop .inv .1,
     )
 
 returns : tie.Need-returns Inv-loop μ-loop
-unfolding ofBits
 returns c =
     let head = c .before in
-    let s = head .before in
-    let ws = s .args .words .now in
-    sym (filled-done (products ws) (head .loop .i) (s .args .n) (head .loop .made) (omega arith)) ∙ head .loop .inv .1
-    ∙ ap (λ (n : ℕ). filled (products ws) n 0 (replicate 120 zero64)) (s .pre .1)
+    let n = head .before .cells-of in
+    let s = head .before .before in
+    let f = products (s .args .words .now) in
+    sym (filled-done f (head .loop .i) (n .result) (head .loop .made) (omega arith)) ∙ head .loop .inv .1 ∙ ap₂ (λ (k : ℕ) (xs : List Float). filled f k 0 xs) (n .ensures) (s .pre .1)
 
 pub right-spec : {M : Type 1} → statement M
 right-spec =
@@ -86,12 +87,13 @@ right-spec =
     (tie.spec
     Inv-loop
     μ-loop
+    cells-of-requires
     loop-holds
     weight-at-requires
     crude-at-requires
     right-at-requires
     mul-made
-    array-write-made
+    element-write-made
     add-i
     loop-less
     loop-again

@@ -1,22 +1,15 @@
 -- The tests are those of the definition.
 use borrow.Author.Tests.{eq-eqb, ne-eqb, le-leb, lt-leb}
 use lib.Ieee.{ofBits}
-use Rattle.house.proofs.Places.{turn-few}
 use borrow.Author.Needs.{needs}
 use Rattle.house.proofs.grid.entry_at.Statement.{statement}
 use Rattle.house.proofs.grid.entry_at.Tie as tie
 
-rem-past : tie.Need-rem-past
-rem-past c = search needs
-
-div-t : tie.Need-div-t
-div-t c = search needs
-
 mul-result : tie.Need-mul-result
-mul-result c = let s = c .before in let h = turn-few (s .args .o) (s .args .columns) (s .pre .0) (s .pre .1) in search needs
+mul-result c = search needs
 
 element-copy-out-result : tie.Need-element-copy-out-result
-element-copy-out-result c = let s = c .before in let h = turn-few (s .args .o) (s .args .columns) (s .pre .0) (s .pre .1) in search needs
+element-copy-out-result c = search needs
 
 returns : tie.Need-returns
 returns c = rw (eq-eqb _ _ (c .before .if1 .taken))
@@ -38,8 +31,6 @@ pub entry-at-spec : {M : Type 1} → statement M
 entry-at-spec =
     tie.close
     (tie.spec
-    rem-past
-    div-t
     mul-result
     element-copy-out-result
     returns

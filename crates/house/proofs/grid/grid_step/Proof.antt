@@ -1,60 +1,80 @@
--- The entries are spread, and the row made of them is put to its places.
-use mathlib.Core.Path.{refl, ap}
+-- Row j of the band, and the step that it gives.
+use mathlib.Core.Path.{refl, sym, ap}
+use Prim.Native.Nat.{ℕ, _-_}
 use native.Mathlib.Omega.{arith}
-use lib.Ieee.{ofBits}
+use mathlib.Core.List.{List}
+use lib.Ieee.{Float, ofBits}
 use lib.ListN.{length}
-use Rattle.house.proofs.Steps.{step-put}
-use Rattle.house.proofs.Spread.{spread-length}
+use Rattle.jobs.specs.Words.{jobOf}
+use Rattle.house.specs.Grid.{gridRows}
+use Rattle.house.proofs.Told.{cells-few}
+use Rattle.house.proofs.Places.{reach-few}
+use Rattle.house.proofs.Steps.{blank-part, step-of}
+use Rattle.house.proofs.Spread.{row-length}
 use borrow.Author.Needs.{needs}
 use Rattle.house.proofs.grid.grid_step.Statement.{statement}
 use Rattle.house.proofs.grid.grid_step.Tie as tie
 
-spread-requires : tie.Need-spread-requires
-spread-requires c κs = search needs
-
-slice-aggregate-factor-row : tie.Need-slice-aggregate-factor-row
-slice-aggregate-factor-row c = search needs
-
-slice-aggregate-factor-row-2 : tie.Need-slice-aggregate-factor-row-2
-slice-aggregate-factor-row-2 c = search needs
-
-factor-row-requires : tie.Need-factor-row-requires
+grid-row-requires : tie.Need-grid-row-requires
 unfolding ofBits
-factor-row-requires c κs =
+grid-row-requires c κs = let s = c .before .before in (s .pre .0, s .pre .1, s .pre .2, s .pre .3, refl)
+
+lowest-of-requires : tie.Need-lowest-of-requires
+lowest-of-requires c κs = search needs
+
+sub-count : tie.Need-sub-count
+sub-count c = search needs
+
+slice-aggregate-factor-into : tie.Need-slice-aggregate-factor-into
+slice-aggregate-factor-into c =
     let s = c .before .before .before .before .before in
-    let a = s .args in
-    let len = spread-length (a .columns) (a .z) (a .below .now) (a .beside .now) in
-    let kept = ap length (c .before .before .before .spread .ensures) in
-    (omega arith, omega arith, omega arith, omega arith, omega arith, refl)
+    sym (row-length (jobOf (s .args .words .now)) (s .args .j) (c .before .before .grid-row .ensures))
 
-mul-at : tie.Need-mul-at
-mul-at c = search needs
+sub-factor-into : tie.Need-sub-factor-into
+sub-factor-into c = search needs
 
-slice-aggregate-put-row : tie.Need-slice-aggregate-put-row
-slice-aggregate-put-row c = search needs
+part-made-start : tie.Need-part-made-start
+part-made-start c = search needs
 
-put-row-requires : tie.Need-put-row-requires
-put-row-requires c κs = search needs
+part-made-end : tie.Need-part-made-end
+part-made-end c =
+    let s = c .before .before .before .before .before .before in
+    let few = reach-few (s .pre .0 .known) (s .pre .0 .columns-few) in
+    let e = s .pre .0 .reach-is in
+    let low = c .before .before .lowest-of .ensures in
+    search needs
+
+factor-into-requires : tie.Need-factor-into-requires
+unfolding ofBits
+factor-into-requires c κs =
+    let s = c .before .before .before .before .before .before .before in
+    let n = s .pre .0 in
+    let few = reach-few (n .known) (n .columns-few) in
+    let e = n .reach-is in
+    let low = c .before .before .before .lowest-of .ensures in
+    let len = row-length (jobOf (s .args .words .now)) (s .args .j) (c .before .before .before .before .grid-row .ensures) in
+    (omega (arith, cells-few (n .known)), omega arith, s .pre .4, blank-part 48 (ap (λ (k : ℕ). s .args .j - k) low) (omega arith))
 
 same-length : tie.Need-same-length
 same-length c = search needs
 
 returns : tie.Need-returns
-unfolding ofBits
 returns c =
-    let a = c .before .before .before .before .before .before .before .before .before .before .before .before .args in
-    step-put 48 (a .d .now) (a .l .now) (a .z) (a .j) (c .before .before .before .before .before .before .before .before .before .before .spread .ensures) (c .before .before .before .before .before .before .factor-row .ensures) (c .before .before .put-row .ensures)
+    let s = c .before .before .before .before .before .before .before .before .before .before .before in
+    let a = s .args in
+    step-of (a .d .now) (a .l .now) (a .z) (a .j) (c .before .before .before .before .before .before .before .before .grid-row .ensures) (c .before .before .before .factor-into .ensures)
 
 pub grid-step-spec : {M : Type 1} → statement M
 grid-step-spec =
     tie.close
     (tie.spec
-    spread-requires
-    slice-aggregate-factor-row
-    slice-aggregate-factor-row-2
-    factor-row-requires
-    mul-at
-    slice-aggregate-put-row
-    put-row-requires
+    grid-row-requires
+    lowest-of-requires
+    sub-count
+    slice-aggregate-factor-into
+    sub-factor-into
+    part-made-start
+    part-made-end
+    factor-into-requires
     same-length
     returns)

@@ -1,66 +1,84 @@
--- The numbers are those of the job.
-use mathlib.Core.Path.{_≡_, ap₂, _∙_}
-use Prim.Native.Nat.{_/_}
-use Rattle.jobs.specs.Words.{rowsOf, jobOf}
-use Rattle.house.specs.Grid.{gridOf, gridSolved}
-use Rattle.house.proofs.Told.{constant-is}
-use Rattle.house.proofs.Shaped.{columns-some, rows-are, second-is, narrow}
+-- The factor is that of the grid, and its ending picks the case.
+use mathlib.Core.Path.{_≡_, refl, sym, ap, _∙_}
+use native.Mathlib.Omega.{arith}
+use lib.Ieee.{ofBits}
+use lib.ListN.{length}
+use Rattle.jobs.specs.Words.{jobOf}
+use Rattle.factor.proofs.Turns.{factor-length}
+use Rattle.house.specs.Grid.{gridRows}
+use Rattle.house.proofs.Told.{cells-few, order-few}
+use Rattle.house.proofs.Places.{reach-few}
+use Rattle.house.proofs.Solving.{grid-holds, grid-places}
 use borrow.Author.Needs.{needs}
 use Rattle.house.proofs.grid.solve_grid.Statement.{statement}
 use Rattle.house.proofs.grid.solve_grid.Tie as tie
 
 cells-of-requires : tie.Need-cells-of-requires
-cells-of-requires c κs = search needs
-
-columns-of-requires : tie.Need-columns-of-requires
-columns-of-requires c κs = search needs
-
-div-rows : tie.Need-div-rows
-div-rows c = let some = columns-some (c .before .before .pre .0) in search needs
+cells-of-requires c κs = let k = c .pre .0 .known in search needs
 
 order-of-requires : tie.Need-order-of-requires
-order-of-requires c κs = search needs
+order-of-requires c κs = let k = c .before .pre .0 .known in search needs
+
+row-of-requires : tie.Need-row-of-requires
+row-of-requires c κs = omega (arith, c .order-of .ensures, order-few (c .before .before .pre .0 .known))
 
 across-of-requires : tie.Need-across-of-requires
-across-of-requires c κs = search needs
+across-of-requires c κs = let k = c .before .before .before .pre .0 .known in search needs
 
-constant-of-requires : tie.Need-constant-of-requires
-constant-of-requires c κs = search needs
+row-of-requires-2 : tie.Need-row-of-requires-2
+row-of-requires-2 c κs = omega (arith, c .across-of .ensures, c .before .before .before .before .pre .0 .known .allowed .across-few)
 
-second-of-requires : tie.Need-second-of-requires
-second-of-requires c κs = search needs
+starts-of-requires : tie.Need-starts-of-requires
+starts-of-requires c κs =
+    let s = c .before .before .before .before .before in
+    let k = s .pre .0 .known in
+    (omega (arith, c .before .before .before .before .cells-of .ensures, cells-few k), omega (arith, s .pre .0 .reach-is, reach-few k (s .pre .0 .columns-few)))
 
-solve-narrow-requires : tie.Need-solve-narrow-requires
-solve-narrow-requires c κs =
-    let s = c .before .before .before .before .before .before in
-    let k = s .pre .0 in
-    rw (c .before .before .before .before .before .cells-of .ensures, c .before .before .before .before .columns-of .ensures, rows-are k, c .before .before .before .order-of .ensures, c .before .before .across-of .ensures, constant-is k (c .before .constant-of .ensures), second-is k (c .second-of .ensures))
-    (narrow k (s .pre .1), k, k .allowed .cells-are)
+slice-aggregate-factor-grid : tie.Need-slice-aggregate-factor-grid
+slice-aggregate-factor-grid c = search needs
+
+factor-grid-requires : tie.Need-factor-grid-requires
+factor-grid-requires c κs =
+    let s = c .before .before .before .before .before .before .before .before .before .before .before in
+    let k = s .pre .0 .known in
+    let n = c .before .before .before .before .before .before .before .before .before .before .cells-of .ensures in
+    let few = reach-few k (s .pre .0 .columns-few) in
+    (s .pre .0, n, rw (← c .before .before .before .before .before .before .before .before .before .order-of .ensures) (c .before .before .before .before .before .before .before .before .row-of .ensures), rw (← c .before .before .before .before .before .before .before .across-of .ensures) (c .before .before .before .before .before .before .row-of2 .ensures),
+      grid-places (c .before .before .before .before .before .starts-of .ensures) (omega (arith, n, cells-few k)) (omega (arith, s .pre .0 .reach-is, few)) refl)
+
+slice-aggregate-solve-whole : tie.Need-slice-aggregate-solve-whole
+slice-aggregate-solve-whole c = search needs
+
+solve-whole-requires : tie.Need-solve-whole-requires
+solve-whole-requires c κs =
+    let s = c .before .before .before .before .before .before .before .before .before .before .before .before .before .before .before .before .before in
+    let k = s .pre .0 .known in
+    let n = c .before .before .before .before .before .before .before .before .before .before .before .before .before .before .before .before .cells-of .ensures in
+    let few = reach-few k (s .pre .0 .columns-few) in
+    let made = c .before .before .before .before .before .factor-grid .ensures .2 in
+    (omega (arith, n, cells-few k), omega (arith, s .pre .0 .reach-is, few),
+      grid-places (c .before .before .before .before .before .before .before .before .before .before .before .starts-of .ensures) (omega (arith, n, cells-few k)) (omega (arith, s .pre .0 .reach-is, few))
+      (ap length made ∙ factor-length (gridRows (jobOf (s .args .words .now))) (s .args .z) (c .before .before .before .before .before .before .before .before .before .before .before .before .before .before .before .before .cells-of .result) 0 _ _))
 
 returns : tie.Need-returns
+unfolding ofBits
 returns c =
-    let s = c .before .before .before .before .before .before .before in
-    let k = s .pre .0 in
+    let s = c .before .before .before .before .before .before .before .before .before .before .before .before .before .before .before .before .before .before in
     let j = jobOf (s .args .words .now) in
-    let columns = c .before .before .before .before .before .columns-of in
-    let rows : c .before .before .before .before .before .before .cells-of .result / columns .result ≡ rowsOf (s .args .words .now) =
-    ap₂ _/_ (c .before .before .before .before .before .before .cells-of .ensures) (columns .ensures) ∙ rows-are k in
-    let down = c .before .before .before .before .order-of .ensures in
-    let across = c .before .before .before .across-of .ensures in
-    let constant = constant-is k (c .before .before .constant-of .ensures) in
-    let second = second-is k (c .before .second-of .ensures) in
-    c .solve-narrow .ensures ∙ (λ i. gridSolved (gridOf (rows i) (columns .ensures i) (down i) (across i) (constant i) (second i) (j .weight) (j .crude)))
+    grid-holds j (c .before .before .before .before .before .before .before .before .before .before .before .before .before .before .before .before .before .cells-of .ensures) (s .pre .0 .reach-is) (s .pre .1) (c .before .before .before .before .before .before .factor-grid .ensures) (c .solve-whole .ensures)
 
 pub solve-grid-spec : {M : Type 1} → statement M
 solve-grid-spec =
     tie.close
     (tie.spec
     cells-of-requires
-    columns-of-requires
-    div-rows
     order-of-requires
+    row-of-requires
     across-of-requires
-    constant-of-requires
-    second-of-requires
-    solve-narrow-requires
+    row-of-requires-2
+    starts-of-requires
+    slice-aggregate-factor-grid
+    factor-grid-requires
+    slice-aggregate-solve-whole
+    solve-whole-requires
     returns)

@@ -1,27 +1,74 @@
 -- One column is a line's; a grid has more.
-use mathlib.Core.Path.{sym, _∙_}
+use mathlib.Core.Path.{_≡_, sym, ap₂, _∙_}
+use Prim.Native.Nat.{_*_, _≤_}
+use native.Mathlib.Omega.{arith}
+use native.Mathlib.Nat as N
 use Rattle.jobs.specs.Words.{jobOf}
+use Rattle.house.specs.Grid.{reach}
+use Rattle.house.proofs.Told.{order-few}
 use Rattle.house.proofs.Shaped.{one-column, more-columns}
 use Rattle.house.proofs.Solving.{solved-line, solved-grid}
 use borrow.Author.Needs.{needs}
 use Rattle.house.proofs.proposal.solve_job.Statement.{statement}
 use Rattle.house.proofs.proposal.solve_job.Tie as tie
 
-solve-line-requires : tie.Need-solve-line-requires
-solve-line-requires c κs = search needs
+order-of-requires : tie.Need-order-of-requires
+order-of-requires c κs = search needs
+
+solve-low-line-requires : tie.Need-solve-low-line-requires
+solve-low-line-requires c κs = search needs
 
 returns : tie.Need-returns
 returns c =
-    let s = c .before .before in
-    solved-line (jobOf (s .args .words .now)) (one-column (s .pre .0) (sym (s .pre .1) ∙ c .before .if1 .taken)) (c .solve-line .ensures)
+    let s = c .before .before .before .before .before in
+    solved-line (jobOf (s .args .words .now)) (one-column (s .pre .0) (sym (s .pre .1) ∙ c .before .before .before .if1 .taken)) (c .solve-low-line .ensures)
 
-solve-grid-requires : tie.Need-solve-grid-requires
-solve-grid-requires c κs = search needs
+solve-line-requires : tie.Need-solve-line-requires
+solve-line-requires c κs = search needs
 
 returns-2 : tie.Need-returns-2
 returns-2 c =
+    let s = c .before .before .before .before .before in
+    solved-line (jobOf (s .args .words .now)) (one-column (s .pre .0) (sym (s .pre .1) ∙ c .before .before .before .if1 .taken)) (c .solve-line .ensures)
+
+mul-z : tie.Need-mul-z
+mul-z c =
     let s = c .before .before in
-    solved-grid (jobOf (s .args .words .now)) (more-columns (s .pre .0) (λ e. c .before .if1 .left (s .pre .1 ∙ e))) (c .solve-grid .ensures)
+    let few : c .before .order-of .result ≤ 4 = omega (arith, c .before .order-of .ensures, order-few (s .pre .0)) in
+    let less = N.mul-le-mul few (s .pre .2) in
+    search needs
+
+solve-small-grid-requires : tie.Need-solve-small-grid-requires
+solve-small-grid-requires c κs =
+    let s = c .before .before .before .before in
+    (record { known = s .pre .0; columns-few = omega (arith, s .pre .1, s .pre .2); reach-is = ap₂ _*_ (c .before .before .before .order-of .ensures) (s .pre .1) }, s .pre .3)
+
+returns-3 : tie.Need-returns-3
+returns-3 c =
+    let s = c .before .before .before .before .before in
+    solved-grid (jobOf (s .args .words .now)) (more-columns (s .pre .0) (λ e. c .before .before .before .if1 .left (s .pre .1 ∙ e))) (c .solve-small-grid .ensures)
+
+solve-grid-requires : tie.Need-solve-grid-requires
+solve-grid-requires c κs =
+    let s = c .before .before .before .before in
+    (record { known = s .pre .0; columns-few = omega (arith, s .pre .1, s .pre .2); reach-is = ap₂ _*_ (c .before .before .before .order-of .ensures) (s .pre .1) }, s .pre .3)
+
+returns-4 : tie.Need-returns-4
+returns-4 c =
+    let s = c .before .before .before .before .before in
+    solved-grid (jobOf (s .args .words .now)) (more-columns (s .pre .0) (λ e. c .before .before .before .if1 .left (s .pre .1 ∙ e))) (c .solve-grid .ensures)
 
 pub solve-job-spec : {M : Type 1} → statement M
-solve-job-spec = tie.close (tie.spec solve-line-requires returns solve-grid-requires returns-2)
+solve-job-spec =
+    tie.close
+    (tie.spec
+    order-of-requires
+    solve-low-line-requires
+    returns
+    solve-line-requires
+    returns-2
+    mul-z
+    solve-small-grid-requires
+    returns-3
+    solve-grid-requires
+    returns-4)

@@ -1,10 +1,13 @@
 -- The factor is that of the line, and its ending picks the case.
-use mathlib.Core.Path.{refl, _∙_}
+use mathlib.Core.Path.{refl, ap, _∙_}
+use native.Mathlib.Omega.{arith}
 use lib.Ieee.{ofBits}
+use lib.ListN.{length}
 use Rattle.jobs.specs.Words.{jobOf}
-use Rattle.house.specs.Band.{rightOf}
+use Rattle.factor.proofs.Turns.{factor-length}
 use Rattle.house.specs.Factoring.{rowsOf}
-use Rattle.house.proofs.Solving.{thin-solved, whole-solved, line-solved}
+use Rattle.house.proofs.Told.{cells-few, order-few}
+use Rattle.house.proofs.Solving.{line-holds, line-places}
 use borrow.Author.Needs.{needs}
 use Rattle.house.proofs.proposal.solve_line.Statement.{statement}
 use Rattle.house.proofs.proposal.solve_line.Tie as tie
@@ -12,68 +15,51 @@ use Rattle.house.proofs.proposal.solve_line.Tie as tie
 cells-of-requires : tie.Need-cells-of-requires
 cells-of-requires c κs = search needs
 
-order-of-requires : tie.Need-order-of-requires
-order-of-requires c κs = search needs
-
 band-requires : tie.Need-band-requires
 band-requires c κs = search needs
+
+starts-of-requires : tie.Need-starts-of-requires
+starts-of-requires c κs = search needs
 
 slice-aggregate-factor-band : tie.Need-slice-aggregate-factor-band
 slice-aggregate-factor-band c = search needs
 
 factor-band-requires : tie.Need-factor-band-requires
-factor-band-requires c κs = search needs
+factor-band-requires c κs =
+    let s = c .before .before .before .before .before .before in
+    let k = s .pre .0 in
+    let n = c .before .before .before .before .before .cells-of .ensures in
+    (omega (arith, n, cells-few k), omega (arith, s .pre .1, order-few k), line-places (c .before .before .before .starts-of .ensures) (omega (arith, n, cells-few k)) (omega (arith, s .pre .1, order-few k)) refl)
 
-enum-known-ending : tie.Need-enum-known-ending
-enum-known-ending c = search needs
+slice-aggregate-solve-whole : tie.Need-slice-aggregate-solve-whole
+slice-aggregate-solve-whole c = search needs
 
-enum-told : tie.Need-enum-told
-enum-told c = search needs
-
-right-requires : tie.Need-right-requires
-right-requires c κs = search needs
-
-slice-aggregate-solve : tie.Need-slice-aggregate-solve
-slice-aggregate-solve c = search needs
-
-solve-requires : tie.Need-solve-requires
-solve-requires c κs = search needs
+solve-whole-requires : tie.Need-solve-whole-requires
+solve-whole-requires c κs =
+    let s = c .before .before .before .before .before .before .before .before .before .before .before .before in
+    let k = s .pre .0 in
+    let n = c .before .before .before .before .before .before .before .before .before .before .before .cells-of .ensures in
+    let made = c .before .before .before .before .before .factor-band .ensures .2 in
+    (omega (arith, n, cells-few k), omega (arith, s .pre .1, order-few k),
+      line-places (c .before .before .before .before .before .before .before .before .before .starts-of .ensures) (omega (arith, n, cells-few k)) (omega (arith, s .pre .1, order-few k))
+      (ap length made ∙ factor-length (rowsOf (c .before .before .before .before .before .before .before .before .before .before .band .result)) (s .args .z) (c .before .before .before .before .before .before .before .before .before .before .before .cells-of .result) 0 _ _))
 
 returns : tie.Need-returns
 unfolding ofBits
 returns c =
-    let j = jobOf (c .before .before .before .before .before .before .before .before .before .before .args .words .now) in
-    let band = c .before .before .before .before .before .before .before .band in
-    let n = c .before .before .before .before .before .before .before .before .before .cells-of in
-    let z = c .before .before .before .before .before .before .before .before .order-of in
-    thin-solved 4 (rowsOf (band .result)) (z .result) (n .result) (rightOf j) (c .before .before .before .before .factor-band .ensures .0) (c .before .ending .given .1)
-    ∙ line-solved j (band .ensures) (n .ensures) (z .ensures) refl
-
-returns-2 : tie.Need-returns-2
-unfolding ofBits
-returns-2 c =
-    let j = jobOf (c .before .before .before .before .before .before .before .before .before .before .before .before .before .args .words .now) in
-    let band = c .before .before .before .before .before .before .before .before .before .before .band in
-    let n = c .before .before .before .before .before .before .before .before .before .before .before .before .cells-of in
-    let z = c .before .before .before .before .before .before .before .before .before .before .before .order-of in
-    let right = c .before .before .before .right in
-    let made = c .before .before .before .before .before .before .before .factor-band .ensures in
-    whole-solved 4 (rowsOf (band .result)) (z .result) (n .result) (right .result) (made .0) (made .1) (made .2) (c .solve .ensures) (c .before .before .before .before .enum-told .given .1)
-    ∙ line-solved j (band .ensures) (n .ensures) (z .ensures) (right .ensures)
+    let s = c .before .before .before .before .before .before .before .before .before .before .before .before .before in
+    let j = jobOf (s .args .words .now) in
+    line-holds j (c .before .before .before .before .before .before .before .before .before .before .before .band .ensures) (c .before .before .before .before .before .before .before .before .before .before .before .before .cells-of .ensures) (s .pre .1) (s .pre .2) (c .before .before .before .before .before .before .factor-band .ensures) (c .solve-whole .ensures)
 
 pub solve-line-spec : {M : Type 1} → statement M
 solve-line-spec =
     tie.close
     (tie.spec
     cells-of-requires
-    order-of-requires
     band-requires
+    starts-of-requires
     slice-aggregate-factor-band
     factor-band-requires
-    enum-known-ending
-    enum-told
-    right-requires
-    slice-aggregate-solve
-    solve-requires
-    returns
-    returns-2)
+    slice-aggregate-solve-whole
+    solve-whole-requires
+    returns)

@@ -1,7 +1,8 @@
 /* bench.h: the bench, for the portal and any other C or C++ program.
  *
- * The bench reads a job (one society's table to be graduated), checks a proposed table with its multipliers, makes a proposal of its own,
- * and keeps accepted tables on a shelf that the caller lends. Document 01 has the rules; this page has what a caller needs.
+ * The bench reads a job (one society's table to be graduated: a line of ages, or a grid for a select table), checks a proposed table with its
+ * multipliers, makes a proposal of its own, and keeps accepted tables on a shelf that the caller lends. Document 01 and, for grids, request W-205
+ * have the rules; this page has what a caller needs.
  *
  * WHAT EVERY CALL DOES
  *
@@ -50,6 +51,7 @@
  *
  *     job pack       society, job, n, order field, k, T; for each cell u, w, floor, ceiling; the count of links;
  *                    for each link the count of terms, its terms (cell, coefficient), the bound
+ *     of a grid      order field 5, and between it and k: rows, columns, order down, order across, second constant
  *     proposal pack  n values, then one multiplier for each link
  *
  * Nothing follows in either. What is allowed, and else refused with 2 or 6:
@@ -57,15 +59,23 @@
  *     society 0..7    job 0..4,294,967,295    n 2..120    order field 0..4, less than n; 0 means the house order 2, which is less than n too
  *     k 1..1,000    T 0..10^15    u, floor, ceiling, value 0..1,000,000    w 0..1,000    multiplier 0..10^9
  *     links 0..160    terms of a link 1..4    cell 0..n-1    coefficient -10..10    bound -10^9..10^9
+ *     of a grid: rows 2 or more    columns 2 or more, rows times columns is n (tested at the columns)    order down 1..4, less than the rows
+ *                order across 1..4, less than the columns    second constant 1..999    k 1..1,000 less the second constant
  *
  * The cells of a link rise strictly and no coefficient is 0 (5). A u may lie outside its box, and a floor may equal its ceiling.
+ *
+ * A grid's cells run along a row first: the cell of row r and column c is r times the columns plus c. Its loss adds k times the squared
+ * differences of the order down, down the columns, and the second constant times those of the order across, along the rows; no difference
+ * runs over a row's end. Links, boxes, check, keep and fetch know no rows: a grid is n cells there.
  *
  * WHAT NOBODY CHECKS FOR A C CALLER
  *
  *   - No pointer is null, even where the count is 0: pass any valid address.
  *   - Each count is true, and each pointer is aligned for its elements.
  *   - No two slices of one call overlap, unless the call only reads both. A pointer to const is only read.
- *   - BENCH_STACK_BYTES of stack are free: a call puts its working room there. bench_propose uses most, about 84 KB.
+ *   - BENCH_STACK_BYTES of stack are free: a call puts its working room there. What each call has written at most, in bytes, as measured:
+ *     STACKTABLE
+ *     BENCH_LINE_STACK_BYTES are enough for every call on a job that is no grid.
  *   - a call names the right society: every call acts for the society that its job pack or its argument names, whoever makes it.
  *
  * Calls may run at the same time on several threads as long as no slice that one of them writes is lent to another. Calls on different

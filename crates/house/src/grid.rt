@@ -88,13 +88,7 @@ fn entry_at(below: &[f64; 5], beside: &[f64; 5], o: usize, t: usize, past: usize
 }
 
 // A row of the band, by offset, zero entries included.
-fn spread(
-    columns: usize,
-    z: usize,
-    below: &[f64; 5],
-    beside: &[f64; 5],
-    made: &mut [f64; ENTRIES],
-)
+fn spread(columns: usize, z: usize, below: &[f64; 5], beside: &[f64; 5], made: &mut [f64; ENTRIES])
     requires { ⌜ (1 ≤ columns) × (z ≤ 48) × (z < 5 * columns) ⌝ }
     ensures { λ _. ⌜ now (made .exit) ≡ spreadOf columns z (now (below .entry)) (now (beside .entry)) (now (made .entry)) ⌝ }
 {
@@ -212,15 +206,6 @@ pub fn solve_grid(words: &[i64], z: usize, v: &mut [f64; CELLS]) -> Ending
     let starts = starts_of(n, z);
     let mut d = [0.0; CELLS];
     let mut l = [0.0; PLACES];
-    let ending = factor_grid(
-        words,
-        &downs,
-        &sides,
-        n,
-        z,
-        &starts,
-        &mut d,
-        &mut l,
-    );
+    let ending = factor_grid(words, &downs, &sides, n, z, &starts, &mut d, &mut l);
     solve_whole(ending, &d, &l, &starts, v, n, z)
 }

@@ -42,9 +42,13 @@ factor-grid-requires c κs =
     let s = c .before .before .before .before .before .before .before .before .before .before .before in
     let k = s .pre .0 .known in
     let n = c .before .before .before .before .before .before .before .before .before .before .cells-of .ensures in
-    let few = reach-few k (s .pre .0 .columns-few) in
-    (s .pre .0, n, rw (← c .before .before .before .before .before .before .before .before .before .order-of .ensures) (c .before .before .before .before .before .before .before .before .row-of .ensures), rw (← c .before .before .before .before .before .before .before .across-of .ensures) (c .before .before .before .before .before .before .row-of2 .ensures),
-      grid-places (c .before .before .before .before .before .starts-of .ensures) (omega (arith, n, cells-few k)) (omega (arith, s .pre .0 .reach-is, few)) refl)
+    let few = reach-few k (s .pre .0 .columns-few) in (
+      s .pre .0,
+      n,
+      rw (← c .before .before .before .before .before .before .before .before .before .order-of .ensures) (c .before .before .before .before .before .before .before .before .row-of .ensures),
+      rw (← c .before .before .before .before .before .before .before .across-of .ensures) (c .before .before .before .before .before .before .row-of2 .ensures),
+      grid-places (c .before .before .before .before .before .starts-of .ensures) (omega (arith, n, cells-few k)) (omega (arith, s .pre .0 .reach-is, few)) refl,
+    )
 
 slice-aggregate-solve-whole : tie.Need-slice-aggregate-solve-whole
 slice-aggregate-solve-whole c = search needs
@@ -55,10 +59,12 @@ solve-whole-requires c κs =
     let k = s .pre .0 .known in
     let n = c .before .before .before .before .before .before .before .before .before .before .before .before .before .before .before .before .cells-of .ensures in
     let few = reach-few k (s .pre .0 .columns-few) in
-    let made = c .before .before .before .before .before .factor-grid .ensures .2 in
-    (omega (arith, n, cells-few k), omega (arith, s .pre .0 .reach-is, few),
+    let made = c .before .before .before .before .before .factor-grid .ensures .2 in (
+      omega (arith, n, cells-few k),
+      omega (arith, s .pre .0 .reach-is, few),
       grid-places (c .before .before .before .before .before .before .before .before .before .before .before .starts-of .ensures) (omega (arith, n, cells-few k)) (omega (arith, s .pre .0 .reach-is, few))
-      (ap length made ∙ factor-length (gridRows (jobOf (s .args .words .now))) (s .args .z) (c .before .before .before .before .before .before .before .before .before .before .before .before .before .before .before .before .cells-of .result) 0 _ _))
+          (ap length made ∙ factor-length (gridRows (jobOf (s .args .words .now))) (s .args .z) (c .before .before .before .before .before .before .before .before .before .before .before .before .before .before .before .before .cells-of .result) 0 _ _),
+    )
 
 returns : tie.Need-returns
 unfolding ofBits

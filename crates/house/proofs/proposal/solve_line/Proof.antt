@@ -39,10 +39,12 @@ solve-whole-requires c κs =
     let s = c .before .before .before .before .before .before .before .before .before .before .before .before in
     let k = s .pre .0 in
     let n = c .before .before .before .before .before .before .before .before .before .before .before .cells-of .ensures in
-    let made = c .before .before .before .before .before .factor-band .ensures .2 in
-    (omega (arith, n, cells-few k), omega (arith, s .pre .1, order-few k),
+    let made = c .before .before .before .before .before .factor-band .ensures .2 in (
+      omega (arith, n, cells-few k),
+      omega (arith, s .pre .1, order-few k),
       line-places (c .before .before .before .before .before .before .before .before .before .starts-of .ensures) (omega (arith, n, cells-few k)) (omega (arith, s .pre .1, order-few k))
-      (ap length made ∙ factor-length (rowsOf (c .before .before .before .before .before .before .before .before .before .before .band .result)) (s .args .z) (c .before .before .before .before .before .before .before .before .before .before .before .cells-of .result) 0 _ _))
+          (ap length made ∙ factor-length (rowsOf (c .before .before .before .before .before .before .before .before .before .before .band .result)) (s .args .z) (c .before .before .before .before .before .before .before .before .before .before .before .cells-of .result) 0 _ _),
+    )
 
 returns : tie.Need-returns
 unfolding ofBits

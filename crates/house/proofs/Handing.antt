@@ -8,7 +8,7 @@ use native.Mathlib.Omega.{arith}
 use borrow.Author.Tests.{lt-ltb, le-ltb}
 use lib.IntN.{ℤ, pos}
 use lib.Ieee.{Float, nan}
-use lib.ListN.{getD, take, replicate, length-replicate, replicate-append-replicate}
+use lib.ListN.{getD, length, length-replicate, replicate, replicate-append-replicate, take}
 use lib.Seq.{sets}
 use Rattle.numbers.specs.Choice.{if_then_else_}
 use Rattle.packs.specs.declared.Outcome.the-variants.{Done}
@@ -24,7 +24,7 @@ use Rattle.factor.specs.declared.Ending.the-variants.{Whole, Thin}
 use Rattle.house.specs.Known.{Known}
 use Rattle.house.specs.Filled.{filled}
 use Rattle.house.specs.Proposal.{solvedOf, valueOf, wordsOf, writtenOf, onEnding, proposedOf, onJobRead, proposeOf}
-use Rattle.house.proofs.Fills.{take-filled, filled-append}
+use Rattle.house.proofs.Fills.{filled-append, length-filled, take-filled}
 
 -- ---- the words of the job
 
@@ -80,3 +80,6 @@ pub part-padded : (j : Job) (v : List Float) {n l : ℕ} {ws : List ℤ} → n �
     → ws ≡ filled (λ i. valueOf j i (getD v i nan)) n 0 (replicate 120 (pos 0)) → padded (take (n - 0) ws) l ≡ packed (wordsOf j v)
 unfolding padded
 part-padded j v en el h ew = ap packed (part-words j v en el h ew)
+
+pub length-rounded : (j : Job) (v : List Float) (n : ℕ) {ws : List ℤ} → ws ≡ filled (λ i. valueOf j i (getD v i nan)) n 0 (replicate 120 (pos 0)) → length ws ≡ 120
+length-rounded j v n e = ap length e ∙ length-filled (λ i. valueOf j i (getD v i nan)) n 0 (replicate 120 (pos 0)) ∙ length-replicate 120 (pos 0)

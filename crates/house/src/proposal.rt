@@ -60,19 +60,17 @@ fn value_at(words: &[i64], i: usize, v: f64) -> i64
     round_out(v, lo, hi) as i64
 }
 
-// The values of a proposal, rounded out.
-fn values_of(words: &[i64], n: usize, v: &[f64; CELLS]) -> [i64; CELLS]
-    requires { ⌜ Known (now words) × (n ≡ cellsOf (now words)) ⌝ }
-    ensures { λ r. ⌜ r ≡ filled (λ i. valueOf (jobOf (now (words .entry))) i (getD (now (v .entry)) i nan)) n 0 (replicate 120 (pos 0)) ⌝ }
+// The values of a proposal, rounded out, into a list of zeros.
+fn values_into(words: &[i64], n: usize, v: &[f64; CELLS], made: &mut [i64; CELLS])
+    requires { ⌜ Known (now words) × (n ≡ cellsOf (now words)) × (now made ≡ replicate 120 (pos 0)) ⌝ }
+    ensures { λ _. ⌜ now (made .exit) ≡ filled (λ i. valueOf (jobOf (now (words .entry))) i (getD (now (v .entry)) i nan)) n 0 (replicate 120 (pos 0)) ⌝ }
 {
-    let mut made = [0i64; CELLS];
     let mut i = 0;
     while i < n {
         let x = v[i];
         made[i] = value_at(words, i, x);
         i += 1;
     }
-    made
 }
 
 // The multipliers are zeros after the values, which take no words of their own.
@@ -82,7 +80,8 @@ fn write_values(words: &[i64], v: &[f64; CELLS], out: &mut [u8]) -> Outcome
 {
     let n = cells_of(words);
     let links = links_of(words, n);
-    let values = values_of(words, n, v);
+    let mut values = [0i64; CELLS];
+    values_into(words, n, v, &mut values);
     packs::writing::put_padded(&values[0..n], links, out)
 }
 

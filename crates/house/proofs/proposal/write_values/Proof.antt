@@ -1,9 +1,10 @@
 -- What is written are the values of the job's cells, with a zero for each link after them.
+use mathlib.Core.Path.{refl}
 use native.Mathlib.Omega.{arith}
 use denote.Ref.{now}
 use lib.ListN.{length}
 use Rattle.jobs.specs.Words.{jobOf}
-use Rattle.house.proofs.Handing.{part-padded}
+use Rattle.house.proofs.Handing.{part-padded, length-rounded}
 use Rattle.house.proofs.Writable.{house-packs}
 use Rattle.house.proofs.Told.{cells-few}
 use borrow.Author.Needs.{needs}
@@ -16,8 +17,8 @@ cells-of-requires c κs = search needs
 links-of-requires : tie.Need-links-of-requires
 links-of-requires c κs = search needs
 
-values-of-requires : tie.Need-values-of-requires
-values-of-requires c κs = search needs
+values-into-requires : tie.Need-values-into-requires
+values-into-requires c κs = let s = c .before .before .before .before in (s .pre, c .before .before .cells-of .ensures, refl)
 
 sub-put-padded : tie.Need-sub-put-padded
 sub-put-padded c = search needs
@@ -26,7 +27,10 @@ part-put-padded-start : tie.Need-part-put-padded-start
 part-put-padded-start c = search needs
 
 part-put-padded-end : tie.Need-part-put-padded-end
-part-put-padded-end c = search needs
+part-put-padded-end c =
+    let s = c .before .before .before .before .before .before in
+    let len = length-rounded (jobOf (s .args .words .now)) (s .args .v .now) (c .before .before .before .before .cells-of .result) (c .before .values-into .ensures) in
+    omega (arith, c .before .before .before .before .cells-of .ensures, cells-few (s .pre), len)
 
 put-padded-requires : tie.Need-put-padded-requires
 put-padded-requires c κs = search needs
@@ -36,11 +40,11 @@ same-length c = search needs
 
 returns : tie.Need-returns
 returns c =
-    let s = c .before .before .before .before .before .before .before .before .before .before in
+    let s = c .before .before .before .before .before .before .before .before .before .before .before in
     let j = jobOf (s .args .words .now) in
     let v = s .args .v .now in
-    let n = c .before .before .before .before .before .before .before .before .cells-of .ensures in
-    let p = part-padded j v n (c .before .before .before .before .before .before .before .links-of .ensures) (omega (arith, n, cells-few (s .pre))) (c .before .before .before .before .before .before .values-of .ensures) in
+    let n = c .before .before .before .before .before .before .before .before .before .cells-of .ensures in
+    let p = part-padded j v n (c .before .before .before .before .before .before .before .before .links-of .ensures) (omega (arith, n, cells-few (s .pre))) (c .before .before .before .before .before .before .values-into .ensures) in
     rw (← house-packs j (s .pre .allowed) v (length (now (s .args .out))), ← p) (c .before .before .put-padded .ensures)
 
 pub write-values-spec : {M : Type 1} → statement M
@@ -49,7 +53,7 @@ write-values-spec =
     (tie.spec
     cells-of-requires
     links-of-requires
-    values-of-requires
+    values-into-requires
     sub-put-padded
     part-put-padded-start
     part-put-padded-end

@@ -15,8 +15,8 @@ use Rattle.house.proofs.Fills.{filled-more, filled-done}
 use Rattle.house.proofs.Told.{cells-few}
 use Rattle.house.proofs.Boxed.{value-small}
 use borrow.Author.Needs.{needs}
-use Rattle.house.proofs.proposal.values_of.Statement.{statement}
-use Rattle.house.proofs.proposal.values_of.Tie as tie
+use Rattle.house.proofs.proposal.values_into.Statement.{statement}
+use Rattle.house.proofs.proposal.values_into.Tie as tie
 
 abbrev values : List ℤ → List Float → ℕ → ℤ
 values ws v i = valueOf (jobOf ws) i (getD v i nan)
@@ -41,11 +41,11 @@ element-copy-out-x c = let few = cells-few (c .before .before .pre .0) in search
 value-at-requires : tie.Need-value-at-requires Inv-loop μ-loop
 value-at-requires c κs = let s = c .before .before .before in (s .pre .0, omega (arith, s .pre .1))
 
-mul-made : tie.Need-mul-made Inv-loop μ-loop
-mul-made c = let few = cells-few (c .before .before .before .before .pre .0) in search needs
+mul-t8 : tie.Need-mul-t8 Inv-loop μ-loop
+mul-t8 c = let few = cells-few (c .before .before .before .before .pre .0) in search needs
 
-array-set-from-made : tie.Need-array-set-from-made Inv-loop μ-loop
-array-set-from-made c = let few = cells-few (c .before .before .before .before .pre .0) in search needs
+element-set-from-made : tie.Need-element-set-from-made Inv-loop μ-loop
+element-set-from-made c = let few = cells-few (c .before .before .before .before .pre .0) in search needs
 
 add-i : tie.Need-add-i Inv-loop μ-loop
 add-i c = let few = cells-few (c .before .before .before .before .pre .0) in search needs
@@ -72,10 +72,11 @@ returns : tie.Need-returns Inv-loop μ-loop
 returns c =
     let head = c .before in
     let s = head .before in
-    sym (filled-done (values (s .args .words .now) (s .args .v .now)) (head .loop .i) (s .args .n) (head .loop .made) (omega arith)) ∙ head .loop .inv .1
+    let f = values (s .args .words .now) (s .args .v .now) in
+    sym (filled-done f (head .loop .i) (s .args .n) (head .loop .made) (omega arith)) ∙ head .loop .inv .1 ∙ ap (filled f (s .args .n) 0) (s .pre .2)
 
-pub values-of-spec : {M : Type 1} → statement M
-values-of-spec =
+pub values-into-spec : {M : Type 1} → statement M
+values-into-spec =
     tie.close
     (tie.spec
     Inv-loop
@@ -84,8 +85,8 @@ values-of-spec =
     mul-x
     element-copy-out-x
     value-at-requires
-    mul-made
-    array-set-from-made
+    mul-t8
+    element-set-from-made
     add-i
     loop-less
     loop-again

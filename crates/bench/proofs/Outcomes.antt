@@ -77,7 +77,7 @@ proposed-small room j A = wide (ltb 12 (j .columns)) (go (solvedOf j .ending) re
   where
     go : (e : Ending) → solvedOf j .ending ≡ e → Small (outcomeOf (onEnding room j (solvedOf j .values) e .outcome))
     go Whole q = written-small room j A (solvedOf j .values)
-    go (Thin cell pivot) q = record { number = omega arith; place = omega (arith, thin-cell j (A .cells-are) cell pivot q, A .cells-few) }
+    go (Thin cell pivot) q = record { number = omega arith; place = omega (arith, thin-cell j cell pivot q, A .cells-few) }
 
     wide : (b : Bool) → Small (outcomeOf (onEnding room j (solvedOf j .values) (solvedOf j .ending) .outcome))
         → Small (outcomeOf ((if b then refused 20 0 else onEnding room j (solvedOf j .values) (solvedOf j .ending)) .outcome))

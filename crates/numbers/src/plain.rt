@@ -61,15 +61,26 @@ pub fn number_at(s: &[u8], at: usize) -> Number
     Number::Unreadable
 }
 
-// How many bytes `x` takes.
-pub fn size(x: u64) -> usize
+// How many bytes `x` takes, group by group.
+fn groups_of(x: u64) -> usize
     ensures { λ r. ⌜ r ≡ length (bytesOf x) ⌝ }
 {
     if x < 128 {
         return 1;
     }
-    let rest = size(x / 128);
+    let rest = groups_of(x / 128);
     rest + 1
+}
+
+// The same. Most numbers have one group, and are told without a call.
+pub fn size(x: u64) -> usize
+    ensures { λ r. ⌜ r ≡ length (bytesOf x) ⌝ }
+{
+    if 127 < x {
+        let more = groups_of(x / 128);
+        return more + 1;
+    }
+    1
 }
 
 // Writes `x` at `at`, where the caller has made sure of the room, and answers the offset after it.

@@ -58,13 +58,16 @@ starred =
     ∷ table (plain (1 ∷ []) 0 1 0) (0 ∷ 0 ∷ 0 ∷ []) (Accepted (pos 1) (pos 1))
     ∷ []
 
--- W-205: a grid of 2 rows and 2 columns, both orders 1, both constants 1, T 0: order field 5, then rows, columns, the order down, the order across, the second
--- constant, k and T. With u 0 15 0 0 the values 3 7 2 3 solve (W + Kd'Kd + Ka'Ka)v = Wu: F is 86 of the fit, 17 down and 17 across, G is 0.
-abbrev pub gridJob : List ℕ
-gridJob = 3 ∷ 7 ∷ 4 ∷ 5 ∷ 2 ∷ 2 ∷ 1 ∷ 1 ∷ 1 ∷ 1 ∷ 0 ∷ (cell 0 1 ++ cell 15 1 ++ cell 0 1 ++ cell 0 1 ++ noLink)
+-- W-205, the select table of `docs/SELECT-TABLE.md`: 3 rows and 2 columns, the order down 2, the order across 1, the second constant 2, k 1, T by its
+-- byte; the first cell's ceiling is 10. Both constants and both orders differ, so that none can stand for the other.
+abbrev pub selectJob : (tolerance : ℕ) → List ℕ
+selectJob tolerance =
+    3 ∷ 7 ∷ 6 ∷ 5 ∷ 3 ∷ 2 ∷ 2 ∷ 1 ∷ 2 ∷ 1 ∷ tolerance
+    ∷ 9 ∷ 1 ∷ 0 ∷ 10 ∷ (cell 18 1 ++ cell 8 2 ++ cell 19 1 ++ cell 18 1 ++ cell 28 2 ++ noLink)
 
 abbrev pub grids : List WorkedTable
 grids =
-    table gridJob (3 ∷ 7 ∷ 2 ∷ 3 ∷ []) (Accepted (pos 120) (pos 0))
-    ∷ table gridJob (3 ∷ 7 ∷ 2 ∷ 2 ∷ []) (Refused 9 0)
+    table (selectJob 0) (10 ∷ 12 ∷ 14 ∷ 17 ∷ 21 ∷ 24 ∷ []) (Accepted (pos 211) (pos 0))
+    ∷ table (selectJob 40) (10 ∷ 12 ∷ 15 ∷ 17 ∷ 21 ∷ 24 ∷ []) (Accepted (pos 219) (pos 40))
+    ∷ table (selectJob 39) (10 ∷ 12 ∷ 15 ∷ 17 ∷ 21 ∷ 24 ∷ []) (Refused 9 0)
     ∷ []

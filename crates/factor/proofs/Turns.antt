@@ -17,7 +17,7 @@ use Rattle.factor.specs.declared.Pivot.the-variants.{Accepted, Thin as T
 use Rattle.factor.specs.declared.Ending.{Ending}
 use Rattle.factor.specs.declared.Ending.the-variants.{Whole, Thin}
 use Rattle.factor.specs.Factor.{Band, Made, Factor, pivotAt, multiplierAt, startOf, rowAt, lessBy, lowest, productOf, multiplierOf, rowFrom, noMultipliers, pivotOf, least, judgedBy, judged, valueOf, factorStep, onPivot, factorFrom}
-use Rattle.factor.specs.Places.{Starts, Placed}
+use Rattle.factor.specs.Places.{Placed}
 use Rattle.factor.specs.Solve.{highest, lowerTerm, upperTerm, forwardFrom, dividedFrom, backwardFrom}
 
 -- from i to n, a turn is left for i and one for each number after it

@@ -1,11 +1,10 @@
 -- The factor of a band (document 01, "The house proposal"), each operation rounded once and in this order. A line's band is its order wide, a grid's
 -- its order down times its columns (document 02, W-205: "by 01's steps with z there the order down times the columns").
-use Prim.Native.Nat.{ℕ, zero, suc, _+_, _-_, _≤_}
-use mathlib.Core.Path.{_≡_}
+use Prim.Native.Nat.{ℕ, zero, suc, _+_, _-_}
 use mathlib.Core.Bool.{Bool, true, false}
 use mathlib.Core.List.{List}
 use lib.IntN.{pos, negsuc}
-use lib.ListN.{length, getD, set, take, drop, replicate}
+use lib.ListN.{getD, set, take, drop, replicate}
 use lib.Seq.{sets}
 use lib.Ieee.{Float, fin, nan, binary64, sub, mul, div, lt}
 use Rattle.factor.specs.declared.Ending.{Ending}

@@ -41,7 +41,7 @@ pub const WIDTH: usize = 48;
 
 pub const PLACES: usize = 4584;
 
-// A at (i, i - t·columns) by t, the diagonal whole.
+// A at (i, i - t·columns) by t, the diagonal whole. `downs` and `sides` are the coefficients of the differences down and across, here and below.
 fn below_of(words: &[i64], downs: &[i64; 5], sides: &[i64; 5], i: usize) -> [f64; 5]
     requires { ⌜ Known (now words) × (i < cellsOf (now words)) × IsRow (orderOf (now words)) (now downs) × IsRow (acrossOf (now words)) (now sides) ⌝ }
     ensures { λ r. ⌜ r ≡ belowOf (jobOf (now (words .entry))) i ⌝ }

@@ -1,8 +1,7 @@
 -- The ending picks the case of the definition.
-use mathlib.Core.Path.{_≡_, sym, ap, _∙_}
+use mathlib.Core.Path.{sym, ap, _∙_}
 use mathlib.Core.List.{List}
 use lib.Ieee.{Float}
-use Rattle.factor.specs.declared.Ending.{Ending}
 use Rattle.factor.specs.Solve.{solvedBy}
 use borrow.Author.Needs.{needs}
 use Rattle.factor.proofs.solve.solve_whole.Statement.{statement}

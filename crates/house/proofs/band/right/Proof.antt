@@ -4,11 +4,10 @@ use Prim.Native.Nat.{ℕ, _+_, _-_, _*_, _≤_, _<_}
 use native.Mathlib.Omega.{arith}
 use mathlib.Core.List.{List}
 use lib.IntN.{ℤ, _*ℤ_}
-use lib.ListN.{set, replicate}
-use lib.Ieee.{Float, binary64, ofInt, ofBits}
+use lib.ListN.{set}
+use lib.Ieee.{Float, binary64, ofInt}
 use Rattle.jobs.specs.Words.{cellsOf, jobOf}
 use Rattle.house.specs.Filled.{filled}
-use Rattle.house.specs.Band.{zero64}
 use Rattle.house.proofs.Fills.{filled-more, filled-done}
 use Rattle.house.proofs.Told.{cells-few, crude-is, crude-small, weight-is, weight-small}
 use borrow.Author.Needs.{needs}

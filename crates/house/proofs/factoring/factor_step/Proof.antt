@@ -1,9 +1,9 @@
 -- The row is made in its part of the four places, and the answer is the definition's.
-use mathlib.Core.Path.{_≡_, refl, sym, ap, _∙_}
+use mathlib.Core.Path.{sym, ap, _∙_}
 use Prim.Native.Nat.{ℕ, _-_}
 use native.Mathlib.Omega.{arith}
 use lib.Ieee.{ofBits}
-use Rattle.factor.specs.Factor.{lowest, factorStep}
+use Rattle.factor.specs.Factor.{factorStep}
 use Rattle.factor.proofs.Turns.{made-length}
 use Rattle.house.proofs.Steps.{blank-part, row-put, step-answered}
 use borrow.Author.Needs.{needs}

@@ -1,10 +1,8 @@
 -- The part of the four places that the row has is put.
-use mathlib.Core.Path.{_≡_, ap, ap₂, _∙_}
+use mathlib.Core.Path.{_≡_, ap₂, _∙_}
 use Prim.Native.Nat.{ℕ, _-_}
 use native.Mathlib.Omega.{arith}
-use mathlib.Core.List.{List}
-use lib.Ieee.{Float}
-use lib.ListN.{length, take, length-take}
+use lib.ListN.{take, length-take}
 use lib.Seq.{sets}
 use Rattle.factor.specs.Factor.{lowest}
 use Rattle.factor.proofs.Turns.{row-fits}

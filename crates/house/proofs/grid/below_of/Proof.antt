@@ -1,9 +1,9 @@
 -- The numbers are those of the job, and the entries those of its row.
-use mathlib.Core.Path.{_≡_, ap, ap₂, _∙_}
-use Prim.Native.Nat.{ℕ, _/_}
+use mathlib.Core.Path.{_≡_, ap₂, _∙_}
+use Prim.Native.Nat.{_/_}
 use native.Mathlib.Omega.{arith}
 use native.Mathlib.Nat as N
-use Rattle.jobs.specs.Words.{rowsOf, jobOf}
+use Rattle.jobs.specs.Words.{rowsOf}
 use Rattle.house.specs.Band.{entriesOf}
 use Rattle.house.proofs.Told.{weight-is, weight-small, constant-is, constant-small}
 use Rattle.house.proofs.Shaped.{columns-some, rows-are, second-is, second-small}

@@ -1,7 +1,5 @@
 -- What is spread are the row's own entries, into zeros.
-use mathlib.Core.Path.{_≡_, sym, ap, _∙_}
-use Prim.Native.Nat.{ℕ}
-use native.Mathlib.Omega.{arith}
+use mathlib.Core.Path.{_∙_}
 use Rattle.jobs.specs.Words.{jobOf}
 use Rattle.house.specs.Held.{spreadOf}
 use Rattle.house.proofs.Shaped.{columns-some}

@@ -2,11 +2,8 @@
 use mathlib.Core.Path.{refl, sym, ap}
 use Prim.Native.Nat.{ℕ, _-_}
 use native.Mathlib.Omega.{arith}
-use mathlib.Core.List.{List}
-use lib.Ieee.{Float, ofBits}
-use lib.ListN.{length}
+use lib.Ieee.{ofBits}
 use Rattle.jobs.specs.Words.{jobOf}
-use Rattle.house.specs.Grid.{gridRows}
 use Rattle.house.proofs.Told.{cells-few}
 use Rattle.house.proofs.Places.{reach-few}
 use Rattle.house.proofs.Steps.{blank-part, step-of}

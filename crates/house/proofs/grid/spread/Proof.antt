@@ -1,12 +1,12 @@
 -- After o turns the places below o hold their entries, and t and `past` are the whole rows and the cells past them in o.
 use mathlib.Core.Path.{_≡_, sym, ap, _∙_}
-use Prim.Native.Nat.{ℕ, _+_, _-_, _*_, _/_, _%_, _≤_, _<_}
+use Prim.Native.Nat.{ℕ, _+_, _-_, _/_, _%_, _≤_}
 use native.Mathlib.Nat as N
 use native.Mathlib.Omega.{arith}
 use lib.ListN.{set}
 use lib.Ieee.{Float}
 use Rattle.house.specs.Filled.{filled}
-use Rattle.house.specs.Held.{entryBy, entryAt, spreadOf}
+use Rattle.house.specs.Held.{entryAt, spreadOf}
 use Rattle.house.proofs.Fills.{filled-more, filled-done}
 use Rattle.house.proofs.Spread.{turn-few, past-next, turn-next}
 use borrow.Author.Needs.{needs}

@@ -1,10 +1,9 @@
 -- One column is a line's; a grid has more.
-use mathlib.Core.Path.{_≡_, sym, ap₂, _∙_}
+use mathlib.Core.Path.{sym, ap₂, _∙_}
 use Prim.Native.Nat.{_*_, _≤_}
 use native.Mathlib.Omega.{arith}
 use native.Mathlib.Nat as N
 use Rattle.jobs.specs.Words.{jobOf}
-use Rattle.house.specs.Grid.{reach}
 use Rattle.house.proofs.Told.{order-few}
 use Rattle.house.proofs.Shaped.{one-column, more-columns}
 use Rattle.house.proofs.Solving.{solved-line, solved-grid}

@@ -55,14 +55,14 @@ society-small society f shelf k = go (leb society 7)
 whole-small : (shelf : List ℕ) (call : Call) → Small (wholeSaid base shelf call .answer)
 unfolding keepReply checkedOf fetchReply forgotReply
 whole-small shelf (keep job proposal) = check-small job proposal
-whole-small shelf (fetch society job room) = society-small society (fetchIn 126 4 job room) shelf (in-small 126 4 job room)
-whole-small shelf (forget society job) = society-small society (forgetReply 126 4 job) shelf (forget-small 126 4 job)
+whole-small shelf (fetch society job room) = society-small society (fetchIn (base .words) (base .count society) job room) shelf (in-small (base .words) (base .count society) job room)
+whole-small shelf (forget society job) = society-small society (forgetReply (base .words) (base .count society) job) shelf (forget-small (base .words) (base .count society) job)
 whole-small shelf clear = refusal-small 0 0 (omega arith) (omega arith)
 
 pub said-small : (shelf : List ℕ) (call : Call) → Small (said base shelf call .answer)
 unfolding fromWhole
-said-small shelf call = go (eqb (length shelf) 4032)
+said-small shelf call = go (eqb (length shelf) (base .total))
   where
-    go : (t : Bool) → Small (cond t (wholeSaid base shelf call) (refusal 13 4032) .answer)
+    go : (t : Bool) → Small (cond t (wholeSaid base shelf call) (refusal 13 (base .total)) .answer)
     go true = whole-small shelf call
-    go false = refusal-small 13 4032 (omega arith) (omega arith)
+    go false = refusal-small 13 (base .total) (omega arith) (omega arith)

@@ -128,14 +128,14 @@ society-handed : (society job room : ℕ) (shelf : List ℕ) → Handed (wholeSa
 unfolding fetchReply fromSociety
 society-handed society job room shelf = go (leb society 7)
   where
-    go : (t : Bool) → Handed (cond t (fetchIn 126 4 job room (spanOf base society shelf)) (refusal 11 0))
-    go true = in-handed 126 4 job room (spanOf base society shelf)
+    go : (t : Bool) → Handed (cond t (fetchIn (base .words) (base .count society) job room (spanOf base society shelf)) (refusal 11 0))
+    go true = in-handed (base .words) (base .count society) job room (spanOf base society shelf)
     go false = omega arith
 
 pub fetch-within : (shelf : List ℕ) (society job room : ℕ) → Handed (said base shelf (fetch society job room))
 unfolding fromWhole
-fetch-within shelf society job room = go (eqb (length shelf) 4032)
+fetch-within shelf society job room = go (eqb (length shelf) (base .total))
   where
-    go : (t : Bool) → Handed (cond t (wholeSaid base shelf (fetch society job room)) (refusal 13 4032))
+    go : (t : Bool) → Handed (cond t (wholeSaid base shelf (fetch society job room)) (refusal 13 (base .total)))
     go true = society-handed society job room shelf
     go false = omega arith

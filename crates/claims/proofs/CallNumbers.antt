@@ -149,9 +149,9 @@ society-number society f shelf k = go (leb society 7)
 whole-number : (others : List ℕ) (most : ℕ) (shelf : List ℕ) (call : Call) → Among others most 13 → Among others most (wholeSaid base shelf call .answer .number)
     → Among others most (said base shelf call .answer .number)
 unfolding fromWhole
-whole-number others most shelf call t h = go (eqb (length shelf) 4032)
+whole-number others most shelf call t h = go (eqb (length shelf) (base .total))
   where
-    go : (b : Bool) → Among others most (cond b (wholeSaid base shelf call) (refusal 13 4032) .answer .number)
+    go : (b : Bool) → Among others most (cond b (wholeSaid base shelf call) (refusal 13 (base .total)) .answer .number)
     go true = h
     go false = t
 
@@ -163,13 +163,13 @@ pub fetch-number : (shelf : List ℕ) (society job room : ℕ) → Held (said ba
 unfolding fetchReply
 fetch-number shelf society job room =
     whole-number (11 ∷ 12 ∷ 13 ∷ []) 0 shelf (fetch society job room) (inr (inr (inl refl)))
-    (society-number society (fetchIn 126 4 job room) shelf (fetch-in-number 126 4 job room))
+    (society-number society (fetchIn (base .words) (base .count society) job room) shelf (fetch-in-number (base .words) (base .count society) job room))
 
 pub forget-number : (shelf : List ℕ) (society job : ℕ) → Held (said base shelf (forget society job))
 unfolding forgotReply
 forget-number shelf society job =
     whole-number (11 ∷ 12 ∷ 13 ∷ []) 0 shelf (forget society job) (inr (inr (inl refl)))
-    (society-number society (forgetReply 126 4 job) shelf (forget-in-number 126 4 job))
+    (society-number society (forgetReply (base .words) (base .count society) job) shelf (forget-in-number (base .words) (base .count society) job))
 
 pub clear-number : (shelf : List ℕ) → Among (13 ∷ []) 0 (said base shelf clear .answer .number)
 clear-number shelf = whole-number (13 ∷ []) 0 shelf clear (inl refl) (inr (omega arith))

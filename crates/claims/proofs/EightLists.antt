@@ -9,7 +9,7 @@ use native.Mathlib.Omega.{arith}
 use lib.Dec.{eqb, leb}
 use lib.ListN.{length, replicate, length-append, length-replicate, replicate-append-replicate}
 use borrow.Author.Tests.{leb-true, eqb-true, eqb-false}
-use Rattle.shelf.specs.Slots.{Reply, refusal, keptIn, forgotIn, forgetReply, fetchIn}
+use Rattle.shelf.specs.Slots.{Reply, refusal, leastWords, keptIn, forgotIn, forgetReply, fetchIn}
 use Rattle.shelf.specs.Checked.{Checked, checkedOf, accepted}
 use Rattle.shelf.specs.Shelf.{Layout, slotFrom, spanOf, sizeOf, onSociety, fromSociety, keptShelf, fetchReply, forgotShelf, forgotReply, cleared}
 use Rattle.shelf.specs.Calls.{Call, keep, fetch, forget, clear, wholeAfter, wholeSaid, after, said, shelfRun}
@@ -27,7 +27,7 @@ pub record Held (w c : ℕ) (ts : List Table) (s : List ℕ) : Type 0 where
   pub few : length ts ≤ c
   pub fit : AllFit ts
 
-laid-length : (w c : ℕ) (ts : List Table) → 126 ≤ w → AllFit ts → length (laid w c ts) ≡ w * c
+laid-length : (w c : ℕ) (ts : List Table) → leastWords ≤ w → AllFit ts → length (laid w c ts) ≡ w * c
 unfolding laid
 laid-length w zero ts h a = sym (mul-zero w)
 laid-length w (suc c) [] h a =

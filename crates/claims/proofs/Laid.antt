@@ -11,7 +11,7 @@ use lib.Seq.{take-at}
 use borrow.Author.Tests.{le-leb, ltb-true, ltb-false}
 use Rattle.shelf.specs.declared.Slot.{Slot}
 use Rattle.shelf.specs.declared.Slot.the-variants.{At, Nowhere}
-use Rattle.shelf.specs.Slots.{Reply, refusal, done, joined, lowWord, highWord, slotOf, isFull, isEmpty, hasJob, lowest, pick, later, orElse, atSlot, putSlot, droppedSlot, pushed, slotFor, keptIn, forgotIn, forgetReply, fetchAt, fetchIn}
+use Rattle.shelf.specs.Slots.{Reply, refusal, done, joined, lowWord, highWord, leastWords, headSize, slotOf, isFull, isEmpty, hasJob, lowest, pick, later, orElse, atSlot, putSlot, droppedSlot, pushed, slotFor, keptIn, forgotIn, forgetReply, fetchAt, fetchIn}
 use Rattle.shelf.proofs.Moves.{slot-length, drop-first, put-first, put-next, lowest-step, replacedIn, forgot-step, replaced-step, forget-reply-step, fetch-step}
 use Rattle.claims.specs.Lists.{Table, isOf, holds, replaced, removed, youngest, kept, handed, fetched, forgotten}
 use Rattle.claims.proofs.Tables.{All}
@@ -37,7 +37,7 @@ head-zero : (w : ℕ) (r : List ℕ) → 0 < w → getD (replicate w 0 ++ r) 0 0
 head-zero zero r h = absurd (omega arith)
 head-zero (suc w) r h = refl
 
-module _ (w : ℕ) (wide : 126 ≤ w) where
+module _ (w : ℕ) (wide : leastWords ≤ w) where
   slot-len : (t : Table) → Fits t → length (slot w t) ≡ w
   slot-len t f = slot-length w (t .job) (t .loss) (t .gap) (t .values) (omega arith)
 
@@ -63,7 +63,7 @@ module _ (w : ℕ) (wide : 126 ≤ w) where
     read room =
         let v = t .values in
         let n = length v in
-        let zs : List ℕ = replicate (w - 6 - n) 0 in
+        let zs : List ℕ = replicate (w - headSize - n) 0 in
         let vs : take n (v ++ zs ++ r) ≡ v = ap (take n) (append-assoc v zs r) ∙ take-at v (zs ++ r) n refl in
         ap {B = Reply} (λ (l : List ℕ). cond (leb n room) (record { answer = record { number = 0; place = n; loss = joined (lowWord (t .loss)) (highWord (t .loss)); gap = joined (lowWord (t .gap)) (highWord (t .gap)) }; values = l }) (refusal 13 n)) vs
         ∙ ap {B = Reply} (λ (x : ℕ). cond (leb n room) (record { answer = record { number = 0; place = n; loss = x; gap = joined (lowWord (t .gap)) (highWord (t .gap)) }; values = v }) (refusal 13 n)) (mod-add-div (t .loss) 4294967296)

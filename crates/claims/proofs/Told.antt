@@ -81,10 +81,10 @@ told-of job proposal answered (Accepted F G) e n w =
 pub kept-told : (job proposal shelf answered : List ℕ) → said base shelf (keep job proposal) .answer .number ≡ 0
     → answered ≡ answerWords (said base shelf (keep job proposal) .answer) → ToldBest job proposal answered
 unfolding fromWhole keepReply checkedOf
-kept-told job proposal shelf answered n w = go (eqb (length shelf) 4032) n w
+kept-told job proposal shelf answered n w = go (eqb (length shelf) (base .total)) n w
   where
     by : Bool → Reply
-    by t = cond t (wholeSaid base shelf (keep job proposal)) (refusal 13 4032)
+    by t = cond t (wholeSaid base shelf (keep job proposal)) (refusal 13 (base .total))
 
     go : (t : Bool) → by t .answer .number ≡ 0 → answered ≡ answerWords (by t .answer) → ToldBest job proposal answered
     go true m u = told-of job proposal answered (checkOf job proposal) refl m u

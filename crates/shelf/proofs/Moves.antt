@@ -7,17 +7,18 @@ use native.Mathlib.Omega.{arith}
 use lib.ListN.{length, take, drop, replicate, length-append, length-replicate}
 use lib.Seq.{take-append-add, drop-append-add, drop-at}
 use mathlib.Core.Bool.{Bool, true, false, cond}
-use Rattle.shelf.specs.Slots.{Reply, done, refusal, slotOf, putSlot, droppedSlot, lowest, pick, later, hasJob, atSlot, forgotIn, forgetReply, fetchAt, fetchIn}
+use Rattle.shelf.specs.Slots.{Reply, done, refusal, headSize, headOf, padded, slotOf, putSlot, droppedSlot, lowest, pick, later, hasJob, atSlot, forgotIn, forgetReply, fetchAt, fetchIn}
 use Rattle.shelf.specs.declared.Slot.{Slot}
 use Rattle.shelf.specs.declared.Slot.the-variants.{At, Nowhere}
 
+padded-length : (k : ℕ) (v : List ℕ) → length v ≤ k → length (padded k v) ≡ k
+padded-length k v h = length-append v (replicate (k - length v) 0) ∙ ap (λ (n : ℕ). length v + n) (length-replicate (k - length v) 0) ∙ omega arith
+
 -- a slot has w words
-pub slot-length : (w job f g : ℕ) (v : List ℕ) → length v + 6 ≤ w → length (slotOf w job f g v) ≡ w
+pub slot-length : (w job f g : ℕ) (v : List ℕ) → headSize + length v ≤ w → length (slotOf w job f g v) ≡ w
 unfolding slotOf
 slot-length w job f g v h =
-    let n = length v in
-    let e : length (v ++ replicate (w - 6 - n) 0) ≡ n + (w - 6 - n) = length-append v (replicate (w - 6 - n) 0) ∙ ap (λ (k : ℕ). n + k) (length-replicate (w - 6 - n) 0) in
-    ap (λ (k : ℕ). suc (suc (suc (suc (suc (suc k)))))) e ∙ omega arith
+    length-append (headOf (length v) job f g) (padded (w - headSize) v) ∙ ap (λ (k : ℕ). headSize + k) (padded-length (w - headSize) v (omega arith)) ∙ omega arith
 
 module _ (w : ℕ) (y rest : List ℕ) (len : length y ≡ w) where
   ahead : (p : ℕ) → w * suc p ≡ length y + w * p

@@ -15,9 +15,9 @@ use Rattle.measure.specs.declared.check.Verdict.{Verdict}
 use Rattle.measure.specs.declared.check.Verdict.the-variants.{Accepted, Refused}
 use Rattle.measure.specs.Check.{ifRead, proposalWords, checkOf}
 use Rattle.shelf.specs.declared.Answer.{Answer}
-use Rattle.shelf.specs.Slots.{slotOf, keptIn}
+use Rattle.shelf.specs.Slots.{slotOf}
 use Rattle.shelf.specs.Checked.{checkedOf, accepted, answerOf, valuesOf}
-use Rattle.shelf.specs.Shelf.{base, onSociety, keptShelf, keepReply}
+use Rattle.shelf.specs.Shelf.{base, slotWords, keptOn, keptShelf, keepReply}
 use Rattle.shelf.specs.Given.{Rates, Given, firstValues, keptFrom}
 use Rattle.shelf.proofs.Values.{length-map, scratch-length, same-word, same-values}
 use Rattle.shelf.proofs.Sound.{Packed, accepted-read}
@@ -29,10 +29,10 @@ values-part n rates rest values h e =
 
 -- a table kept for a society under a number that are a job's
 pub kept-by : (words : List ℤ) (loss gap s j : ℕ) → s ≡ countAt words 0 → j ≡ countAt words 1 → (vs us : List ℕ) → vs ≡ us → (shelf ys : List ℕ)
-    → ys ≡ onSociety base s (keptIn 126 4 j (slotOf 126 j loss gap vs)) shelf → ys ≡ keptFrom words loss gap us shelf
+    → ys ≡ keptOn base s j (slotOf slotWords j loss gap vs) shelf → ys ≡ keptFrom words loss gap us shelf
 kept-by words loss gap s j p q vs us r shelf ys e =
-    e ∙ ap (λ (x : ℕ). onSociety base x (keptIn 126 4 j (slotOf 126 j loss gap vs)) shelf) p
-    ∙ ap (λ (x : ℕ). onSociety base (countAt words 0) (keptIn 126 4 x (slotOf 126 x loss gap vs)) shelf) q
+    e ∙ ap (λ (x : ℕ). keptOn base x j (slotOf slotWords j loss gap vs) shelf) p
+    ∙ ap (λ (x : ℕ). keptOn base (countAt words 0) x (slotOf slotWords x loss gap vs) shelf) q
     ∙ ap (λ (x : List ℕ). keptFrom words loss gap x shelf) r
 
 -- ---- two packs that the check has accepted
@@ -97,8 +97,8 @@ module _ (job proposal : List ℕ) (F G : ℤ) (e : checkOf job proposal ≡ Acc
       let vs = valuesOf (jobOf ws) proposal in (
         p ∙ sym (ap {B = Answer} answerOf e),
         k
-            ∙ packs-name (λ s j vs. onSociety base s (keptIn 126 4 j (slotOf 126 j (natAbs F) (natAbs G) vs)) shelf)
-            ∙ sym (ap (λ (v : Verdict). cond (accepted v) (onSociety base s (keptIn 126 4 j (slotOf 126 j (answerOf v .loss) (answerOf v .gap) vs)) shelf) shelf) e),
+            ∙ packs-name (λ s j vs. keptOn base s j (slotOf slotWords j (natAbs F) (natAbs G) vs) shelf)
+            ∙ sym (ap (λ (v : Verdict). cond (accepted v) (keptOn base s j (slotOf slotWords j (answerOf v .loss) (answerOf v .gap) vs) shelf) shelf) e),
       )
 
 -- ---- and two that it has refused
@@ -110,5 +110,5 @@ refused-packs job proposal number place e a p shelf =
     let j = countAt (readJob job .words) 1 in
     let vs = valuesOf (jobOf (readJob job .words)) proposal in (
       p ∙ sym (ap {B = Answer} answerOf e),
-      sym (ap (λ (v : Verdict). cond (accepted v) (onSociety base s (keptIn 126 4 j (slotOf 126 j (answerOf v .loss) (answerOf v .gap) vs)) shelf) shelf) e),
+      sym (ap (λ (v : Verdict). cond (accepted v) (keptOn base s j (slotOf slotWords j (answerOf v .loss) (answerOf v .gap) vs) shelf) shelf) e),
     )

@@ -1,53 +1,62 @@
--- The whole shelf after a society's part was lent to a span's call, or after it was refused.
+-- The whole shelf after a society's part was lent to a span's call, or after it was refused. For any layout.
 use mathlib.Core.Path.{_≡_, sym, ap, _∙_}
 use mathlib.Core.Bool.{Bool, cond}
 use mathlib.Core.List.{List}
-use Prim.Native.Nat.{ℕ, _+_, _-_, _*_, _<_, _≤_}
+use Prim.Native.Nat.{ℕ, _+_, _-_, _<_, _≤_}
 use native.Mathlib.Omega.{arith}
 use borrow.Author.Tests.{le-leb, lt-leb}
 use borrow.Rule.Slice.PartMut.{putMid, midOf}
-use Rattle.shelf.specs.Slots.{Reply, refusal, forgotIn, forgetReply, fetchIn}
-use Rattle.shelf.specs.Shelf.{base, spanOf, onPart, onSociety, fromSociety, fetchReply, forgotShelf, forgotReply}
+use Rattle.shelf.specs.Slots.{Reply, refusal, keptIn, forgotIn, forgetReply, fetchIn}
+use Rattle.shelf.specs.Shelf.{Layout, sizeOf, spanOf, onPart, onSociety, fromSociety, keptOn, fetchReply, forgotShelf, forgotReply}
 use Rattle.shelf.specs.declared.Answer.{Answer}
 
--- the part that the code lends is the society's span
-pub lent : (s : ℕ) → 504 * s + 504 - 504 * s ≡ 504
-lent s = omega arith
-
-module _ (s : ℕ) (xs : List ℕ) where
-  pub on-within : (f : List ℕ → List ℕ) (ys : List ℕ) → s ≤ 7 → ys ≡ f (midOf (504 * s) (504 * s + 504 - 504 * s) xs) → putMid (504 * s) (504 * s + 504 - 504 * s) xs ys ≡ onSociety base s f xs
+module _ (l : Layout) (s : ℕ) (xs : List ℕ) where
+  -- ---- a society above 7
+  pub on-above : (f : List ℕ → List ℕ) → 7 < s → xs ≡ onSociety l s f xs
   unfolding onSociety
-  on-within f ys h e =
-      ap (putMid (504 * s) (504 * s + 504 - 504 * s) xs) e ∙ ap (λ (k : ℕ). onPart (504 * s) k f xs) (lent s) ∙ sym (ap (λ (b : Bool). cond b (onPart (504 * s) 504 f xs) xs) (le-leb s 7 h))
+  on-above f h = sym (ap (λ (b : Bool). cond b (onPart (l .start s) (sizeOf l s) f xs) xs) (lt-leb s 7 h))
 
-  pub on-above : (f : List ℕ → List ℕ) → 7 < s → xs ≡ onSociety base s f xs
-  unfolding onSociety
-  on-above f h = sym (ap (λ (b : Bool). cond b (onPart (504 * s) 504 f xs) xs) (lt-leb s 7 h))
-
-  pub from-within : (f : List ℕ → Reply) → s ≤ 7 → f (midOf (504 * s) (504 * s + 504 - 504 * s) xs) ≡ fromSociety base s f xs
+  pub from-above : (f : List ℕ → Reply) → 7 < s → refusal 11 0 ≡ fromSociety l s f xs
   unfolding fromSociety
-  from-within f h =
-      ap {B = Reply} (λ (k : ℕ). f (midOf (504 * s) k xs)) (lent s) ∙ sym (ap {B = Reply} (λ (b : Bool). cond b (f (spanOf base s xs)) (refusal 11 0)) (le-leb s 7 h))
+  from-above f h = sym (ap {B = Reply} (λ (b : Bool). cond b (f (spanOf l s xs)) (refusal 11 0)) (lt-leb s 7 h))
 
-  pub from-above : (f : List ℕ → Reply) → 7 < s → refusal 11 0 ≡ fromSociety base s f xs
-  unfolding fromSociety
-  from-above f h = sym (ap {B = Reply} (λ (b : Bool). cond b (f (spanOf base s xs)) (refusal 11 0)) (lt-leb s 7 h))
-
-  -- ---- fetch and forget
-  pub fetch-within : (job room : ℕ) → s ≤ 7 → fetchIn 126 4 job room (midOf (504 * s) (504 * s + 504 - 504 * s) xs) ≡ fetchReply base s job room xs
+  pub fetch-above : (job room : ℕ) → 7 < s → refusal 11 0 ≡ fetchReply l s job room xs
   unfolding fetchReply
-  fetch-within job room h = from-within (fetchIn 126 4 job room) h
+  fetch-above job room h = from-above (fetchIn (l .words) (l .count s) job room) h
 
-  pub fetch-above : (job room : ℕ) → 7 < s → refusal 11 0 ≡ fetchReply base s job room xs
-  unfolding fetchReply
-  fetch-above job room h = from-above (fetchIn 126 4 job room) h
-
-  pub forget-within : (job : ℕ) (a : Answer) (ys : List ℕ) → s ≤ 7 → a ≡ forgetReply 126 4 job (midOf (504 * s) (504 * s + 504 - 504 * s) xs) .answer → ys ≡ forgotIn 126 4 job (midOf (504 * s) (504 * s + 504 - 504 * s) xs)
-      → (a ≡ forgotReply base s job xs .answer) × (putMid (504 * s) (504 * s + 504 - 504 * s) xs ys ≡ forgotShelf base s job xs)
+  pub forget-above : (job : ℕ) (a : Answer) → 7 < s → a ≡ refusal 11 0 .answer → (a ≡ forgotReply l s job xs .answer) × (xs ≡ forgotShelf l s job xs)
   unfolding forgotReply forgotShelf
-  forget-within job a ys h e f =
-      (e ∙ ap {B = Answer} (λ (r : Reply). r .answer) (from-within (forgetReply 126 4 job) h), on-within (forgotIn 126 4 job) ys h f)
+  forget-above job a h e =
+      (e ∙ ap {B = Answer} (λ (r : Reply). r .answer) (from-above (forgetReply (l .words) (l .count s) job) h), on-above (forgotIn (l .words) (l .count s) job) h)
 
-  pub forget-above : (job : ℕ) (a : Answer) → 7 < s → a ≡ refusal 11 0 .answer → (a ≡ forgotReply base s job xs .answer) × (xs ≡ forgotShelf base s job xs)
-  unfolding forgotReply forgotShelf
-  forget-above job a h e = (e ∙ ap {B = Answer} (λ (r : Reply). r .answer) (from-above (forgetReply 126 4 job) h), on-above (forgotIn 126 4 job) h)
+  -- ---- the words from a to e are lent: they are the society's span
+  module _ (a e : ℕ) (starts : a ≡ l .start s) (ends : e ≡ a + sizeOf l s) (h : s ≤ 7) where
+    size : e - a ≡ sizeOf l s
+    size = omega arith
+
+    pub lent-span : midOf a (e - a) xs ≡ spanOf l s xs
+    lent-span = ap (λ (k : ℕ). midOf a k xs) size ∙ ap (λ (n : ℕ). midOf n (sizeOf l s) xs) starts
+
+    pub on-within : (f : List ℕ → List ℕ) (ys : List ℕ) → ys ≡ f (midOf a (e - a) xs) → putMid a (e - a) xs ys ≡ onSociety l s f xs
+    unfolding onSociety
+    on-within f ys y =
+        ap (putMid a (e - a) xs) y ∙ ap (λ (k : ℕ). onPart a k f xs) size ∙ ap (λ (n : ℕ). onPart n (sizeOf l s) f xs) starts
+        ∙ sym (ap (λ (b : Bool). cond b (onPart (l .start s) (sizeOf l s) f xs) xs) (le-leb s 7 h))
+
+    pub from-within : (f : List ℕ → Reply) → f (midOf a (e - a) xs) ≡ fromSociety l s f xs
+    unfolding fromSociety
+    from-within f = ap {B = Reply} f lent-span ∙ sym (ap {B = Reply} (λ (b : Bool). cond b (f (spanOf l s xs)) (refusal 11 0)) (le-leb s 7 h))
+
+    -- ---- keep, fetch and forget
+    pub keep-within : (job : ℕ) (x ys : List ℕ) → ys ≡ keptIn (l .words) (l .count s) job x (midOf a (e - a) xs) → putMid a (e - a) xs ys ≡ keptOn l s job x xs
+    keep-within job x ys y = on-within (keptIn (l .words) (l .count s) job x) ys y
+
+    pub fetch-within : (job room : ℕ) → fetchIn (l .words) (l .count s) job room (midOf a (e - a) xs) ≡ fetchReply l s job room xs
+    unfolding fetchReply
+    fetch-within job room = from-within (fetchIn (l .words) (l .count s) job room)
+
+    pub forget-within : (job : ℕ) (r : Answer) (ys : List ℕ) → r ≡ forgetReply (l .words) (l .count s) job (midOf a (e - a) xs) .answer
+        → ys ≡ forgotIn (l .words) (l .count s) job (midOf a (e - a) xs) → (r ≡ forgotReply l s job xs .answer) × (putMid a (e - a) xs ys ≡ forgotShelf l s job xs)
+    unfolding forgotReply forgotShelf
+    forget-within job r ys p q =
+        (p ∙ ap {B = Answer} (λ (x : Reply). x .answer) (from-within (forgetReply (l .words) (l .count s) job)), on-within (forgotIn (l .words) (l .count s) job) ys q)

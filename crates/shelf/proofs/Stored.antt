@@ -1,59 +1,65 @@
--- A slot after its six words, its values and its zeros were written.
+-- A slot whose parts were written one after the other: its head, then words with zeros after them.
 use mathlib.Core.Path.{_≡_, refl, sym, ap, _∙_}
 use mathlib.Core.List.{List, [], _++_, append-nil, append-assoc}
 use Prim.Native.Nat.{ℕ, _+_, _-_, _≤_}
 use native.Mathlib.Omega.{arith}
-use lib.ListN.{length, take, drop, replicate, length-drop, length-append, drop-of-length-le}
+use lib.ListN.{length, take, drop, replicate, length-drop, length-append, length-replicate, drop-of-length-le}
 use lib.Seq.{take-all, take-at, drop-at, sets, sets-eq}
 use borrow.Rule.Slice.PartMut.{putMid, midOf, postOf}
-use Rattle.shelf.specs.Slots.{slotOf, headOf}
+use Rattle.shelf.specs.Slots.{headSize, headOf, padded, slotOf}
 
-module _ (l : List ℕ) (len : length l ≡ 126) (h : List ℕ) (six : length h ≡ 6) (v : List ℕ) (fits : length v ≤ 120) where
-  -- the six stores
-  pub after-head : sets l 0 h ≡ h ++ drop 6 l
-  after-head =
-      let e : 0 + length h ≡ 6 = omega arith in
-      sets-eq h l 0 (omega arith) ∙ ap (λ (n : ℕ). h ++ drop n l) e
+-- ---- the part that follows a
+module _ (a rest : List ℕ) (i : ℕ) (e : length a ≡ i) (k : ℕ) where
+  pub put-next : (y : List ℕ) → putMid i k (a ++ rest) y ≡ (a ++ y) ++ drop k rest
+  put-next y =
+      ap (λ (r : List ℕ). r ++ (y ++ postOf i k (a ++ rest))) (take-at a rest i e)
+      ∙ ap (λ (r : List ℕ). a ++ (y ++ drop k r)) (drop-at a rest i e)
+      ∙ sym (append-assoc a y (drop k rest))
 
-  -- the part from 6 on, and nothing after it
-  module _ (a : List ℕ) (ea : a ≡ h ++ drop 6 l) where
-    front : take 6 a ≡ h
-    front = ap (take 6) ea ∙ take-at h (drop 6 l) 6 six
+  pub mid-next : midOf i k (a ++ rest) ≡ take k rest
+  mid-next = ap (take k) (drop-at a rest i e)
 
-    rest : drop 6 a ≡ drop 6 l
-    rest = ap (drop 6) ea ∙ drop-at h (drop 6 l) 6 six
+-- the last part: nothing follows it
+pub put-last : (a rest : List ℕ) (i k : ℕ) → length a ≡ i → length rest ≤ k → (y : List ℕ) → putMid i k (a ++ rest) y ≡ a ++ y
+put-last a rest i k e h y = put-next a rest i e k y ∙ ap (λ (r : List ℕ). (a ++ y) ++ r) (drop-of-length-le rest {i = k} h) ∙ append-nil (a ++ y)
 
-    rest-length : length (drop 6 a) ≡ 120
-    rest-length = rw (rest, length-drop) (omega arith)
+pub mid-last : (a rest : List ℕ) (i k : ℕ) → length a ≡ i → length rest ≤ k → midOf i k (a ++ rest) ≡ rest
+mid-last a rest i k e h = mid-next a rest i e k ∙ take-all k rest h
 
-    pub mid-is : midOf 6 120 a ≡ drop 6 l
-    mid-is = take-all 120 (drop 6 a) (omega (arith, rest-length)) ∙ rest
+-- ---- stores over all of a list
+pub stored-all : (l h : List ℕ) → length l ≡ length h → sets l 0 h ≡ h
+stored-all l h e =
+    sets-eq h l 0 (omega arith) ∙ ap (λ (r : List ℕ). h ++ r) (drop-of-length-le l {i = 0 + length h} (omega arith)) ∙ append-nil h
 
-    pub after-values : (ys : List ℕ) → ys ≡ v ++ drop (length v) (midOf 6 120 a) → putMid 6 120 a ys ≡ h ++ (v ++ drop (length v) (drop 6 l))
-    after-values ys e =
-        ap (λ (r : List ℕ). r ++ (ys ++ postOf 6 120 a)) front
-        ∙ ap (λ (r : List ℕ). h ++ (ys ++ r)) (drop-of-length-le (drop 6 a) {i = 120} (omega (arith, rest-length)))
-        ∙ ap (λ (r : List ℕ). h ++ r) (append-nil ys ∙ e ∙ ap (λ (r : List ℕ). v ++ drop (length v) r) mid-is)
+-- ---- words over the front of a part, and zeros after them
+pub padded-is : (p v b zs : List ℕ) (k : ℕ) → length v ≤ length p → k ≡ length p → b ≡ v ++ drop (length v) p → zs ≡ replicate (length (midOf (length v) (k - length v) b)) 0
+    → putMid (length v) (k - length v) b zs ≡ padded (length p) v
+padded-is p v b zs k h ek e z =
+    let n = length v in
+    let rest = drop n p in
+    let r : length rest ≡ k - n = length-drop n p ∙ ap (λ (m : ℕ). m - n) (sym ek) in
+    let m : length (midOf n (k - n) b) ≡ length p - n = ap (λ (x : List ℕ). length (midOf n (k - n) x)) e ∙ ap length (mid-last v rest n (k - n) refl (omega arith)) ∙ length-drop n p in
+    ap (λ (x : List ℕ). putMid n (k - n) x zs) e ∙ put-last v rest n (k - n) refl (omega arith) zs
+    ∙ ap (λ (x : List ℕ). v ++ x) (z ∙ ap (λ (x : ℕ). replicate x 0) m)
 
-  -- the zeros
-  pub after-zeros : (b zs : List ℕ) → b ≡ h ++ (v ++ drop (length v) (drop 6 l)) → zs ≡ replicate (length (midOf (6 + length v) (126 - (6 + length v)) b)) 0
-      → putMid (6 + length v) (126 - (6 + length v)) b zs ≡ h ++ (v ++ replicate (120 - length v) 0)
-  after-zeros b zs e z =
-      let n = length v in
-      let tail = drop n (drop 6 l) in
-      let eb : b ≡ (h ++ v) ++ tail = e ∙ sym (append-assoc h v tail) in
-      let hv : length (h ++ v) ≡ 6 + n = length-append h v ∙ ap (λ (k : ℕ). k + n) six in
-      let t : take (6 + n) b ≡ h ++ v = ap (take (6 + n)) eb ∙ take-at (h ++ v) tail (6 + n) hv in
-      let d : drop (6 + n) b ≡ tail = ap (drop (6 + n)) eb ∙ drop-at (h ++ v) tail (6 + n) hv in
-      let tl : length tail ≡ 120 - n = rw (length-drop, length-drop) (omega arith) in
-      let ml : length (midOf (6 + n) (126 - (6 + n)) b) ≡ 120 - n =
-      ap length (ap (take (126 - (6 + n))) d ∙ take-all (126 - (6 + n)) tail (omega arith)) ∙ tl in
-      let p : postOf (6 + n) (126 - (6 + n)) b ≡ [] = ap (drop (126 - (6 + n))) d ∙ drop-of-length-le tail {i = 126 - (6 + n)} (omega arith) in
-      ap (λ (r : List ℕ). r ++ (zs ++ postOf (6 + n) (126 - (6 + n)) b)) t
-      ∙ ap (λ (r : List ℕ). (h ++ v) ++ (zs ++ r)) p
-      ∙ ap (λ (r : List ℕ). (h ++ v) ++ r) (append-nil zs ∙ z ∙ ap (λ (k : ℕ). replicate k 0) ml)
-      ∙ append-assoc h v (replicate (120 - n) 0)
+-- ---- a slot of w words
+module _ (w : ℕ) (l : List ℕ) (len : length l ≡ w) (wide : headSize ≤ w) (job f g : ℕ) (v : List ℕ) where
+  -- its head was put
+  module _ (a h : List ℕ) (eh : h ≡ headOf (length v) job f g) (ea : a ≡ putMid 0 headSize l h) where
+    headed : a ≡ headOf (length v) job f g ++ drop headSize l
+    headed = ea ∙ put-next [] l 0 refl headSize h ∙ ap (λ (x : List ℕ). x ++ drop headSize l) eh
 
-pub slot-is : (job f g : ℕ) (v : List ℕ) → headOf (length v) job f g ++ (v ++ replicate (120 - length v) 0) ≡ slotOf 126 job f g v
-unfolding slotOf
-slot-is job f g v = refl
+    left : length (drop headSize l) ≡ w - headSize
+    left = length-drop headSize l ∙ ap (λ (n : ℕ). n - headSize) len
+
+    pub after-head : length (midOf headSize (w - headSize) a) ≡ w - headSize
+    after-head =
+        ap (λ (x : List ℕ). length (midOf headSize (w - headSize) x)) headed
+        ∙ ap length (mid-last (headOf (length v) job f g) (drop headSize l) headSize (w - headSize) refl (omega (arith, left))) ∙ left
+
+    pub slot-is : (p : List ℕ) → p ≡ padded (length (midOf headSize (w - headSize) a)) v → putMid headSize (w - headSize) a p ≡ slotOf w job f g v
+    unfolding slotOf
+    slot-is p e =
+        ap (λ (x : List ℕ). putMid headSize (w - headSize) x p) headed
+        ∙ put-last (headOf (length v) job f g) (drop headSize l) headSize (w - headSize) refl (omega (arith, left)) p
+        ∙ ap (λ (x : List ℕ). headOf (length v) job f g ++ x) (e ∙ ap (λ (k : ℕ). padded k v) after-head)

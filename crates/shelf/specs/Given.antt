@@ -5,8 +5,8 @@ use mathlib.Core.List.{List, map}
 use lib.IntN.{ℤ, natAbs}
 use lib.ListN.{length, take}
 use Rattle.jobs.specs.Words.{wordAt, countAt, cellsOf}
-use Rattle.shelf.specs.Slots.{slotOf, keptIn}
-use Rattle.shelf.specs.Shelf.{base, onSociety}
+use Rattle.shelf.specs.Slots.{slotOf}
+use Rattle.shelf.specs.Shelf.{base, slotWords, keptOn}
 
 -- A job's words, with zeros after them up to 2,092.
 pub record JobWords (words : List ℤ) : Type 0 where
@@ -31,4 +31,4 @@ abbrev pub firstValues : ℕ → List ℤ → List ℕ
 firstValues n rates = take n (map natAbs rates)
 
 abbrev pub keptFrom : (words : List ℤ) (loss gap : ℕ) (values shelf : List ℕ) → List ℕ
-keptFrom words loss gap values shelf = onSociety base (countAt words 0) (keptIn 126 4 (countAt words 1) (slotOf 126 (countAt words 1) loss gap values)) shelf
+keptFrom words loss gap values shelf = keptOn base (countAt words 0) (countAt words 1) (slotOf slotWords (countAt words 1) loss gap values) shelf

@@ -24,6 +24,13 @@ sizeOf l society = l .words * l .count society
 abbrev pub base : Layout
 base = record { words = 126; count = λ society. 4; start = λ society. 504 * society; total = 4032 }
 
+-- the words of a slot and of a shelf, as the code has them
+abbrev pub slotWords : ℕ
+slotWords = base .words
+
+abbrev pub shelfWords : ℕ
+shelfWords = base .total
+
 -- ---- parts
 -- f done to the k words from a on, the others as they were
 abbrev pub onPart : (a k : ℕ) → (f : List ℕ → List ℕ) → List ℕ → List ℕ
@@ -53,9 +60,12 @@ fromWhole l f shelf = cond (eqb (length shelf) (l .total)) (f shelf) (refusal 13
 abbrev pub slotFrom : Layout → Checked → List ℕ
 slotFrom l o = slotOf (l .words) (o .job) (answerOf (o .verdict) .loss) (answerOf (o .verdict) .gap) (o .values)
 
+-- the slot x kept for a society under a job number
+abbrev pub keptOn : Layout → (society job : ℕ) → (x : List ℕ) → List ℕ → List ℕ
+keptOn l society job x shelf = onSociety l society (keptIn (l .words) (l .count society) job x) shelf
+
 unfoldable pub keptShelf : Layout → Checked → List ℕ → List ℕ
-keptShelf l o shelf =
-    cond (accepted (o .verdict)) (onSociety l (o .society) (keptIn (l .words) (l .count (o .society)) (o .job) (slotFrom l o)) shelf) shelf
+keptShelf l o shelf = cond (accepted (o .verdict)) (keptOn l (o .society) (o .job) (slotFrom l o) shelf) shelf
 
 unfoldable pub keepReply : Checked → Reply
 keepReply o = record { answer = answerOf (o .verdict); values = [] }

@@ -6,7 +6,7 @@ ghost use lib.IntN.{natAbs};
 ghost use lib.ListN.{length, drop};
 ghost use Rattle.jobs.specs.Words.{countAt, cellsOf};
 ghost use Rattle.shelf.specs.Checked.{checkedOf};
-ghost use Rattle.shelf.specs.Shelf.{base, keptShelf, keepReply};
+ghost use Rattle.shelf.specs.Shelf.{base, shelfWords, keptShelf, keepReply};
 ghost use Rattle.shelf.specs.Given.{JobWords, Rates, Given, firstValues, keptFrom};
 use crate::Answer;
 use crate::societies::keep_society;
@@ -40,7 +40,7 @@ fn copy_rates(rates: &[i64], n: usize, values: &mut [u32])
 
 // Keep the first n rates under the society and the number of a job's words.
 fn keep_rates(shelf: &mut [u32], words: &[i64], rates: &[i64], n: usize, loss: u64, gap: u64)
-    requires { ⌜ (length (now shelf) ≡ 4032) × JobWords (now words) × Rates n (now rates) ⌝ }
+    requires { ⌜ (length (now shelf) ≡ shelfWords) × JobWords (now words) × Rates n (now rates) ⌝ }
     ensures { λ _. ⌜ now (shelf .exit) ≡ keptFrom (now (words .entry)) loss gap (firstValues n (now (rates .entry))) (now (shelf .entry)) ⌝ }
 {
     let mut values = [0u32; 120];
@@ -59,7 +59,7 @@ fn keep_rates(shelf: &mut [u32], words: &[i64], rates: &[i64], n: usize, loss: u
 
 // Keep a table that the check has accepted with that loss and gap: the numbers of a proposal, for a job's words.
 fn keep_table(shelf: &mut [u32], words: &[i64], rates: &[i64], loss: i64, gap: i64) -> Answer
-    requires { ⌜ (length (now shelf) ≡ 4032) × Given (now words) (now rates) ⌝ }
+    requires { ⌜ (length (now shelf) ≡ shelfWords) × Given (now words) (now rates) ⌝ }
     ensures answer { λ r. ⌜ r ≡ record { number = 0; place = 0; loss = natAbs loss; gap = natAbs gap } ⌝ }
     ensures shelf { λ _. ⌜ now (shelf .exit) ≡ keptFrom (now (words .entry)) (natAbs loss) (natAbs gap) (firstValues (cellsOf (now (words .entry))) (now (rates .entry))) (now (shelf .entry)) ⌝ }
 {
@@ -77,7 +77,7 @@ fn keep_table(shelf: &mut [u32], words: &[i64], rates: &[i64], loss: i64, gap: i
 
 // Check the proposal, and keep its table where it is accepted.
 pub fn keep_checked(shelf: &mut [u32], job: &[u8], proposal: &[u8]) -> Answer
-    requires { ⌜ length (now shelf) ≡ 4032 ⌝ }
+    requires { ⌜ length (now shelf) ≡ shelfWords ⌝ }
     ensures answer { λ r. ⌜ r ≡ keepReply (checkedOf (now (job .entry)) (now (proposal .entry))) .answer ⌝ }
     ensures shelf { λ _. ⌜ now (shelf .exit) ≡ keptShelf base (checkedOf (now (job .entry)) (now (proposal .entry))) (now (shelf .entry)) ⌝ }
 {

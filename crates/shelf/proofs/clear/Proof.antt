@@ -2,7 +2,7 @@
 use mathlib.Core.Path.{_≡_, ap, _∙_}
 use Prim.Native.Nat.{ℕ}
 use lib.ListN.{replicate}
-use Rattle.shelf.specs.Shelf.{base, cleared}
+use Rattle.shelf.specs.Shelf.{base, shelfWords, cleared}
 use Rattle.shelf.specs.Calls.{clear}
 use Rattle.shelf.proofs.Lengths.{whole, not-whole}
 use borrow.Author.Needs.{needs}
@@ -26,7 +26,7 @@ plain-requires-2 c κs = search needs
 same-length : tie.Need-same-length
 same-length c = search needs
 
-zeros : (n : ℕ) → n ≡ 4032 → replicate n 0 ≡ cleared base
+zeros : (n : ℕ) → n ≡ shelfWords → replicate n 0 ≡ cleared base
 unfolding cleared
 zeros n e = ap (λ (k : ℕ). replicate k 0) e
 

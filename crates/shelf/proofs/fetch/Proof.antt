@@ -2,7 +2,7 @@
 use mathlib.Core.Path.{refl}
 use lib.ListN.{length}
 use Rattle.shelf.specs.Slots.{refusal}
-use Rattle.shelf.specs.Shelf.{base, fetchReply}
+use Rattle.shelf.specs.Shelf.{base, shelfWords, fetchReply}
 use Rattle.shelf.specs.Calls.{fetch, wholeSaid, said}
 use Rattle.shelf.proofs.Picked.{replied}
 use Rattle.shelf.proofs.Lengths.{from-whole, from-other}
@@ -18,7 +18,7 @@ returns c =
     let a = c .before .before .before .before .args in
     let o = a .out .now in
     let call = fetch (a .society) (a .job) (length o) in
-    replied (refusal 13 4032) (said base (a .shelf .now) call) (c .plain .result) o o (from-other base (a .shelf .now) (c .before .if1 .taken) (λ s. wholeSaid base s call)) (c .plain .ensures) refl
+    replied (refusal 13 shelfWords) (said base (a .shelf .now) call) (c .plain .result) o o (from-other base (a .shelf .now) (c .before .if1 .taken) (λ s. wholeSaid base s call)) (c .plain .ensures) refl
 
 fetch-society-requires : tie.Need-fetch-society-requires
 fetch-society-requires c κs = search needs

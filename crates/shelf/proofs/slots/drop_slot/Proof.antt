@@ -2,6 +2,7 @@
 use mathlib.Core.Path.{_∙_}
 use Prim.Native.Nat.{_*_}
 use native.Mathlib.Omega.{arith}
+use Rattle.shelf.specs.Shelf.{slotWords}
 use Rattle.shelf.proofs.Placed.{drop-is, dropped-is}
 use borrow.Author.Needs.{needs}
 use Rattle.shelf.proofs.slots.drop_slot.Statement.{statement}
@@ -53,7 +54,7 @@ returns c =
     let start = shift .before .before .before in
     let s = start .args .span .now in
     let p = start .args .p in
-    drop-is 126 s (omega arith) (126 * p) (start .pre) (shift .shift-down .last .0) (shift .shift-down .ensures) (zero .zero-words .last .0) (zero .zero-words .ensures) ∙ dropped-is 126 p s
+    drop-is slotWords s (omega arith) (slotWords * p) (start .pre) (shift .shift-down .last .0) (shift .shift-down .ensures) (zero .zero-words .last .0) (zero .zero-words .ensures) ∙ dropped-is slotWords p s
 
 pub drop-slot-spec : {M : Type 1} → statement M
 drop-slot-spec =

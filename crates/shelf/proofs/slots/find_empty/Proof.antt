@@ -4,19 +4,20 @@ use Prim.Native.Nat.{_-_, _*_, _≤_}
 use native.Mathlib.Omega.{arith}
 use borrow.Author.Needs.{needs}
 use borrow.Author.Tests.{not-true, not-false}
+use Rattle.shelf.specs.Shelf.{slotWords}
 use Rattle.shelf.specs.Slots.{isEmpty, lowest}
 use Rattle.shelf.proofs.Search.{left, left-start, left-found, left-next, left-end, empty-full, empty-empty}
 use Rattle.shelf.proofs.slots.find_empty.Statement.{statement}
 use Rattle.shelf.proofs.slots.find_empty.Tie as tie
 
 abbrev Inv-loop : tie.InvT-loop
-Inv-loop span count p₀ p = (p ≤ count) × (left isEmpty 126 count span p ≡ lowest isEmpty 126 count span)
+Inv-loop span count p₀ p = (p ≤ count) × (left isEmpty slotWords count span p ≡ lowest isEmpty slotWords count span)
 
 abbrev μ-loop : tie.MeasureT-loop
 μ-loop span count p₀ p = count - p
 
 loop-holds : tie.Need-loop-holds Inv-loop μ-loop
-loop-holds c = let a = c .before .args in (search needs, left-start isEmpty 126 (a .count) (a .span .now))
+loop-holds c = let a = c .before .args in (search needs, left-start isEmpty slotWords (a .count) (a .span .now))
 
 mul-at : tie.Need-mul-at Inv-loop μ-loop
 mul-at c = omega arith
@@ -29,7 +30,7 @@ returns c =
     let at = c .before .before .before in
     let a = at .before .before .args in
     let p = at .loop .p in
-    sym (left-found isEmpty 126 (a .count) (a .span .now) p (omega arith) (empty-empty (a .span .now) (126 * p) (sym (c .before .full-at .ensures) ∙ not-true (c .before .full-at .result) (c .if1 .taken)))) ∙ at .loop .inv .1
+    sym (left-found isEmpty slotWords (a .count) (a .span .now) p (omega arith) (empty-empty (a .span .now) (slotWords * p) (sym (c .before .full-at .ensures) ∙ not-true (c .before .full-at .result) (c .if1 .taken)))) ∙ at .loop .inv .1
 
 add-p : tie.Need-add-p Inv-loop μ-loop
 add-p c = omega arith
@@ -42,12 +43,12 @@ loop-again c =
     let at = c .before .before .before in
     let a = at .before .before .args in
     let p = at .loop .p in
-    (omega arith, left-next isEmpty 126 (a .count) (a .span .now) p (omega arith) (empty-full (a .span .now) (126 * p) (sym (c .before .full-at .ensures) ∙ not-false (c .before .full-at .result) (c .if1 .left))) ∙ at .loop .inv .1)
+    (omega arith, left-next isEmpty slotWords (a .count) (a .span .now) p (omega arith) (empty-full (a .span .now) (slotWords * p) (sym (c .before .full-at .ensures) ∙ not-false (c .before .full-at .result) (c .if1 .left))) ∙ at .loop .inv .1)
 
 returns-2 : tie.Need-returns-2 Inv-loop μ-loop
 returns-2 c =
     let a = c .before .before .before .args in
-    sym (left-end isEmpty 126 (a .count) (a .span .now) (c .before .loop .p) (omega arith)) ∙ c .before .loop .inv .1
+    sym (left-end isEmpty slotWords (a .count) (a .span .now) (c .before .loop .p) (omega arith)) ∙ c .before .loop .inv .1
 
 pub find-empty-spec : {M : Type 1} → statement M
 find-empty-spec =

@@ -1,4 +1,5 @@
 -- The last slot's words stayed as they were, and the table is put there.
+use Rattle.shelf.specs.Shelf.{slotWords}
 use Rattle.shelf.specs.Slots.{slotOf}
 use Rattle.shelf.proofs.Placed.{push-is}
 use borrow.Author.Needs.{needs}
@@ -35,7 +36,7 @@ returns c =
     let shift = put .before .before .before .before in
     let start = shift .before .before .before .before in
     let a = start .args in
-    push-is 126 (a .span .now) (start .pre .0) (slotOf 126 (a .job) (a .loss) (a .gap) (a .values .now)) (shift .shift-down .last .0) (shift .shift-down .ensures) (put .put-table .last .0) (put .put-table .ensures)
+    push-is slotWords (a .span .now) (start .pre .0) (slotOf slotWords (a .job) (a .loss) (a .gap) (a .values .now)) (shift .shift-down .last .0) (shift .shift-down .ensures) (put .put-table .last .0) (put .put-table .ensures)
 
 pub push-spec : {M : Type 1} → statement M
 push-spec =

@@ -1,4 +1,5 @@
 -- The part that was lent is slot p.
+use Rattle.shelf.specs.Shelf.{slotWords}
 use Rattle.shelf.specs.Slots.{slotOf}
 use Rattle.shelf.proofs.Placed.{put-is}
 use borrow.Author.Needs.{needs}
@@ -33,7 +34,7 @@ returns : tie.Need-returns
 returns c =
     let put = c .before .before in
     let a = put .before .before .before .before .args in
-    put-is 126 (a .p) (a .span .now) (slotOf 126 (a .job) (a .loss) (a .gap) (a .values .now)) (put .put-table .last .0) (put .put-table .ensures)
+    put-is slotWords (a .p) (a .span .now) (slotOf slotWords (a .job) (a .loss) (a .gap) (a .values .now)) (put .put-table .last .0) (put .put-table .ensures)
 
 pub put-at-spec : {M : Type 1} → statement M
 put-at-spec =

@@ -1,5 +1,6 @@
 -- The job's slot, else the lowest empty one.
 use mathlib.Core.Path.{sym, _∙_}
+use Rattle.shelf.specs.Shelf.{slotWords}
 use Rattle.shelf.proofs.Search.{for-found, for-none}
 use borrow.Author.Needs.{needs}
 use Rattle.shelf.proofs.slots.slot_for.Statement.{statement}
@@ -22,14 +23,14 @@ returns c =
     let at = c .before in
     let find = at .before .before in
     let a = find .before .before .args in
-    for-found 126 (a .count) (a .job) (a .span .now) (at .found .given .0 .0) (sym (find .find-job .ensures) ∙ at .found .given .1)
+    for-found slotWords (a .count) (a .job) (a .span .now) (at .found .given .0 .0) (sym (find .find-job .ensures) ∙ at .found .given .1)
 
 returns-2 : tie.Need-returns-2
 returns-2 c =
     let told = c .before in
     let find = told .before .before in
     let a = find .before .before .args in
-    for-none 126 (a .count) (a .job) (a .span .now) (c .find-empty .result) (sym (find .find-job .ensures) ∙ told .enum-told .given .1) (c .find-empty .ensures)
+    for-none slotWords (a .count) (a .job) (a .span .now) (c .find-empty .result) (sym (find .find-job .ensures) ∙ told .enum-told .given .1) (c .find-empty .ensures)
 
 pub slot-for-spec : {M : Type 1} → statement M
 slot-for-spec =

@@ -1,4 +1,7 @@
 -- 11 above 7, else what the society's part answers.
+use mathlib.Core.Path.{refl}
+use Prim.Native.Nat.{_+_}
+use Rattle.shelf.specs.Shelf.{base, sizeOf}
 use Rattle.shelf.proofs.Society.{forget-above, forget-within}
 use borrow.Author.Needs.{needs}
 use Rattle.shelf.proofs.societies.forget_society.Statement.{statement}
@@ -10,10 +13,13 @@ plain-requires c κs = search needs
 returns : tie.Need-returns
 returns c =
     let a = c .before .before .before .args in
-    forget-above (a .society) (a .shelf .now) (a .job) (c .plain .result) (c .before .if1 .taken) (c .plain .ensures)
+    forget-above base (a .society) (a .shelf .now) (a .job) (c .plain .result) (c .before .if1 .taken) (c .plain .ensures)
 
-mul-a : tie.Need-mul-a
-mul-a c = search needs
+start-of-requires : tie.Need-start-of-requires
+start-of-requires c κs = search needs
+
+mul-e : tie.Need-mul-e
+mul-e c = search needs
 
 add-e : tie.Need-add-e
 add-e c = search needs
@@ -39,9 +45,10 @@ same-length c = search needs
 returns-2 : tie.Need-returns-2
 returns-2 c =
     let got = c .before .before in
-    let test = got .before .before in
-    let a = test .before .before .args in
-    forget-within (a .society) (a .shelf .now) (a .job) (got .forget-in .result) (got .forget-in .last .0) (test .if1 .left) (got .forget-in .ensures .0) (got .forget-in .ensures .1)
+    let found = c .before .before .before .before .start-of in
+    let a = c .before .before .before .before .before .before .before .args in
+    let b = found .result in
+    forget-within base (a .society) (a .shelf .now) b (b + sizeOf base (a .society)) (found .ensures) refl (c .before .before .before .before .before .if1 .left) (a .job) (got .forget-in .result) (got .forget-in .last .0) (got .forget-in .ensures .0) (got .forget-in .ensures .1)
 
 pub forget-society-spec : {M : Type 1} → statement M
 forget-society-spec =
@@ -49,7 +56,8 @@ forget-society-spec =
     (tie.spec
     plain-requires
     returns
-    mul-a
+    start-of-requires
+    mul-e
     add-e
     mul-forget-in
     sub-forget-in

@@ -1,12 +1,18 @@
--- The words from 504 times the society on are the society's span, and the table is kept there.
-use Rattle.shelf.specs.Slots.{slotOf, keptIn}
-use Rattle.shelf.proofs.Society.{on-within}
+-- The part that is lent is the society's span, and the table is kept there.
+use mathlib.Core.Path.{refl}
+use Prim.Native.Nat.{_+_}
+use Rattle.shelf.specs.Slots.{slotOf}
+use Rattle.shelf.specs.Shelf.{base, slotWords, sizeOf}
+use Rattle.shelf.proofs.Society.{keep-within}
 use borrow.Author.Needs.{needs}
 use Rattle.shelf.proofs.societies.keep_society.Statement.{statement}
 use Rattle.shelf.proofs.societies.keep_society.Tie as tie
 
-mul-a : tie.Need-mul-a
-mul-a c = search needs
+start-of-requires : tie.Need-start-of-requires
+start-of-requires c κs = search needs
+
+mul-e : tie.Need-mul-e
+mul-e c = search needs
 
 add-e : tie.Need-add-e
 add-e c = search needs
@@ -32,15 +38,18 @@ same-length c = search needs
 returns : tie.Need-returns
 returns c =
     let kept = c .before .before in
-    let start = kept .before .before .before .before in
+    let found = c .before .before .before .before .start-of in
+    let start = c .before .before .before .before .before .before .before in
     let a = start .args in
-    on-within (a .society) (a .shelf .now) (keptIn 126 4 (a .job) (slotOf 126 (a .job) (a .loss) (a .gap) (a .values .now))) (kept .keep-in .last .0) (start .pre .1) (kept .keep-in .ensures)
+    keep-within base (a .society) (a .shelf .now) (found .result) (found .result + sizeOf base (a .society)) (found .ensures) refl (start .pre .1)
+    (a .job) (slotOf slotWords (a .job) (a .loss) (a .gap) (a .values .now)) (kept .keep-in .last .0) (kept .keep-in .ensures)
 
 pub keep-society-spec : {M : Type 1} → statement M
 keep-society-spec =
     tie.close
     (tie.spec
-    mul-a
+    start-of-requires
+    mul-e
     add-e
     mul-keep-in
     sub-keep-in

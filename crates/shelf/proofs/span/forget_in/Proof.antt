@@ -1,6 +1,7 @@
 -- The slot that was found is dropped.
 use mathlib.Core.Path.{sym, _∙_}
 use native.Mathlib.Omega.{arith}
+use Rattle.shelf.specs.Shelf.{slotWords}
 use Rattle.shelf.specs.Slots.{hasJob}
 use Rattle.shelf.proofs.Sizes.{found-below}
 use Rattle.shelf.proofs.Picked.{forget-at, forget-none}
@@ -19,7 +20,7 @@ drop-slot-requires c κs =
     let at = c .before .before in
     let found = at .before .before in
     let a = found .before .before .before .args in
-    let below = found-below (hasJob (a .job)) 126 (a .count) (a .span .now) (at .found .given .0 .0) (sym (found .find-job .ensures) ∙ at .found .given .1) in
+    let below = found-below (hasJob (a .job)) slotWords (a .count) (a .span .now) (at .found .given .0 .0) (sym (found .find-job .ensures) ∙ at .found .given .1) in
     omega arith
 
 plain-requires : tie.Need-plain-requires
@@ -40,7 +41,7 @@ returns c =
     let at = drop .before .before .before in
     let found = at .before .before in
     let a = found .before .before .before .args in
-    let both = forget-at 126 (a .count) (a .job) (a .span .now) (at .found .given .0 .0) (c .plain .result) (sym (found .find-job .ensures) ∙ at .found .given .1) (c .plain .ensures) in
+    let both = forget-at slotWords (a .count) (a .job) (a .span .now) (at .found .given .0 .0) (c .plain .result) (sym (found .find-job .ensures) ∙ at .found .given .1) (c .plain .ensures) in
     (both .0, drop .drop-slot .ensures ∙ both .1)
 
 same-length-2 : tie.Need-same-length-2
@@ -51,7 +52,7 @@ returns-2 c =
     let told = c .before in
     let found = told .before .before in
     let a = found .before .before .before .args in
-    forget-none 126 (a .count) (a .job) (a .span .now) (c .plain2 .result) (sym (found .find-job .ensures) ∙ told .enum-told .given .1) (c .plain2 .ensures)
+    forget-none slotWords (a .count) (a .job) (a .span .now) (c .plain2 .result) (sym (found .find-job .ensures) ∙ told .enum-told .given .1) (c .plain2 .ensures)
 
 pub forget-in-spec : {M : Type 1} → statement M
 forget-in-spec =

@@ -1,6 +1,7 @@
 -- The table goes into the slot that was found; where none was, every slot moves down and it is the last.
 use mathlib.Core.Path.{sym, _∙_}
 use native.Mathlib.Omega.{arith}
+use Rattle.shelf.specs.Shelf.{slotWords}
 use Rattle.shelf.specs.Slots.{slotOf}
 use Rattle.shelf.proofs.Sizes.{for-below}
 use Rattle.shelf.proofs.Picked.{kept-at, kept-none}
@@ -20,7 +21,7 @@ put-at-requires c κs =
     let found = at .before .before in
     let start = found .before .before .before .before in
     let a = start .args in
-    let below = for-below 126 (a .count) (a .job) (a .span .now) (at .found .given .0 .0) (sym (found .slot-for .ensures) ∙ at .found .given .1) in
+    let below = for-below slotWords (a .count) (a .job) (a .span .now) (at .found .given .0 .0) (sym (found .slot-for .ensures) ∙ at .found .given .1) in
     (omega arith, start .pre .2)
 
 enum-told : tie.Need-enum-told
@@ -39,7 +40,7 @@ returns c =
     let found = at .before .before in
     let a = found .before .before .before .before .args in
     put .put-at .ensures
-    ∙ kept-at 126 (a .count) (a .job) (a .span .now) (slotOf 126 (a .job) (a .loss) (a .gap) (a .values .now)) (at .found .given .0 .0) (sym (found .slot-for .ensures) ∙ at .found .given .1)
+    ∙ kept-at slotWords (a .count) (a .job) (a .span .now) (slotOf slotWords (a .job) (a .loss) (a .gap) (a .values .now)) (at .found .given .0 .0) (sym (found .slot-for .ensures) ∙ at .found .given .1)
 
 same-length-2 : tie.Need-same-length-2
 same-length-2 c = search needs
@@ -51,7 +52,7 @@ returns-2 c =
     let found = told .before .before in
     let a = found .before .before .before .before .args in
     put .push .ensures
-    ∙ kept-none 126 (a .count) (a .job) (a .span .now) (slotOf 126 (a .job) (a .loss) (a .gap) (a .values .now)) (sym (found .slot-for .ensures) ∙ told .enum-told .given .1)
+    ∙ kept-none slotWords (a .count) (a .job) (a .span .now) (slotOf slotWords (a .job) (a .loss) (a .gap) (a .values .now)) (sym (found .slot-for .ensures) ∙ told .enum-told .given .1)
 
 pub keep-in-spec : {M : Type 1} → statement M
 keep-in-spec =

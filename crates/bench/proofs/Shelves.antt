@@ -1,40 +1,92 @@
 -- The same for the calls on a shelf, from any words.
-use Prim.Native.Nat.{ℕ, _*_, _≤_}
+use Prim.Native.Nat.{ℕ, _+_, _*_, _≤_}
 use mathlib.Core.Path.{_≡_, refl}
 use mathlib.Core.Bool.{Bool, true, false, cond}
 use mathlib.Core.List.{List}
 use native.Mathlib.Omega.{arith}
-use native.Mathlib.Nat.{add-zero}
-use lib.Dec.{eqb, leb}
-use lib.ListN.{length, take, drop, getD}
-use lib.Seq.{getD-drop}
+use borrow.Author.Tests.{ltb-true, eqb-true}
+use lib.Dec.{eqb, leb, ltb}
+use lib.IntN.{natAbs}
+use lib.ListN.{length, drop, length-take}
+use Rattle.numbers.specs.Choice.{if_then_else_}
+use Rattle.packs.specs.declared.Outcome.{Outcome}
+use Rattle.packs.specs.declared.Outcome.the-variants.{Done, Refused as Refuses}
+use Rattle.packs.proofs.Near.{Near}
+use Rattle.jobs.specs.Job.{Job}
+use Rattle.jobs.specs.Words.{jobOf}
+use Rattle.jobs.specs.Allowed.{Allowed}
+use Rattle.jobs.specs.Packs.{readJob}
+use Rattle.jobs.proofs.Near.{job-read-near}
+use Rattle.jobs.proofs.Readings.{read-jobs-allowed}
+use Rattle.measure.specs.declared.check.Verdict.{Verdict}
+use Rattle.measure.specs.declared.check.Verdict.the-variants.{Accepted, Refused}
+use Rattle.measure.specs.Check.{valuesOf, multipliersOf}
 use Rattle.shelf.specs.declared.Slot.{Slot}
 use Rattle.shelf.specs.declared.Slot.the-variants.{At, Nowhere}
-use Rattle.shelf.specs.Slots.{Reply, refusal, done, joined, lowest, hasJob, atSlot, fetchAt, fetchIn, forgetReply}
-use Rattle.shelf.specs.Checked.{checkedOf}
-use Rattle.shelf.specs.Shelf.{base, spanOf, fromSociety, fromWhole, keepReply, fetchReply, forgotReply}
+use Rattle.shelf.specs.Slots.{Reply, refusal, done, headSize, valuesEnd, lowest, hasJob, atSlot, forgetReply}
+use Rattle.shelf.specs.Checked.{checkedOf, answerOf}
+use Rattle.shelf.specs.Fetched.{mostValue, mostMultiplier, lowestAbove, orSix, proposalOf, verdictFor, keptVerdict, handed, sameCounts, fetchTable, keptCells, keptLinks, keptValues, keptMultipliers, fetchAt, fetchIn, onJob}
+use Rattle.shelf.specs.Shelf.{Layout, base, spanOf, fromSociety, fromWhole, keepReply, fetchFrom, fetchReply, forgotReply}
 use Rattle.shelf.specs.Calls.{Call, keep, fetch, forget, clear, wholeSaid, said}
-use Rattle.shelf.proofs.Picked.{found-count}
-use Rattle.bench.proofs.Small.{Small, check-small}
+use Rattle.shelf.proofs.Picked.{and-left, and-right}
+use Rattle.bench.proofs.Small.{Small, verdict-small, check-small}
 
 refusal-small : (number place : ℕ) → number ≤ 31 → place ≤ 20920 → Small (refusal number place .answer)
 refusal-small number place h l = record { number = h; place = l }
 
-at-small : (room : ℕ) (x : List ℕ) → getD x 0 0 ≤ 120 → Small (fetchAt room x .answer)
-unfolding fetchAt
-at-small room x h = go (leb (getD x 0 0) room)
+-- ---- a fetch
+six-small : (first most : ℕ) (numbers : List ℕ) (later : Verdict) → first ≤ 127 → length numbers ≤ 160 → Small (answerOf later) → Small (answerOf (orSix first most numbers later))
+six-small first most numbers later h n l = go (ltb (lowestAbove most numbers) (length numbers)) refl
   where
-    go : (t : Bool) → Small (cond t (record { answer = record { number = 0; place = getD x 0 0; loss = joined (getD x 2 0) (getD x 3 0); gap = joined (getD x 4 0) (getD x 5 0) }; values = take (getD x 0 0) (drop 6 x) }) (refusal 13 (getD x 0 0)) .answer)
+    go : (t : Bool) → ltb (lowestAbove most numbers) (length numbers) ≡ t → Small (answerOf (if t then Refused 6 (first + lowestAbove most numbers) else later))
+    go true e = record { number = omega arith; place = omega (arith, ltb-true (lowestAbove most numbers) (length numbers) e) }
+    go false e = l
+
+kept-small : (j : Job) → Allowed j → (v y : List ℕ) → length v ≤ 120 → length y ≤ 160 → Small (answerOf (keptVerdict j v y))
+unfolding keptVerdict
+kept-small j A v y h k =
+    let last = verdictFor j (proposalOf v y) in
+    six-small headSize mostValue v (orSix valuesEnd mostMultiplier y last) (omega arith) (omega arith)
+    (six-small valuesEnd mostMultiplier y last (omega arith) k (verdict-small j A (valuesOf (proposalOf v y)) (multipliersOf (j .cells) (proposalOf v y))))
+
+handed-small : (room : ℕ) (v : List ℕ) (w : Verdict) → length v ≤ 120 → Small (answerOf w) → Small (handed room v w .answer)
+handed-small room v (Refused number place) h s = record { number = s .number; place = s .place }
+handed-small room v (Accepted F G) h s = go (leb (length v) room)
+  where
+    go : (t : Bool) → Small (cond t (record { answer = record { number = 0; place = length v; loss = natAbs F; gap = natAbs G }; values = v }) (refusal 13 (length v)) .answer)
     go true = record { number = omega arith; place = omega arith }
     go false = record { number = omega arith; place = omega arith }
 
-in-small : (w c job room : ℕ) (s : List ℕ) → Small (fetchIn w c job room s .answer)
-unfolding fetchIn
-in-small w c job room s = go (lowest (hasJob job) w c s) refl
+table-small : (j : Job) → Allowed j → (room cells links : ℕ) (v y : List ℕ) → length v ≤ cells → length y ≤ links → Small (fetchTable j room cells links v y .answer)
+unfolding fetchTable
+table-small j A room cells links v y h k = go (sameCounts j cells links) refl
   where
-    go : (o : Slot) → lowest (hasJob job) w c s ≡ o → Small (atSlot o (λ p. fetchAt room (drop (w * p) s)) (refusal 12 0) .answer)
-    go (At p) e = at-small room (drop (w * p) s) (rw (getD-drop (w * p) s 0 0, add-zero) (found-count job w c s p e))
-    go Nowhere e = refusal-small 12 0 (omega arith) (omega arith)
+    go : (t : Bool) → sameCounts j cells links ≡ t → Small (cond t (handed room v (keptVerdict j v y)) (refusal 12 0) .answer)
+    go true e =
+        let c = eqb-true cells (j .cells) (and-left (eqb cells (j .cells)) (eqb links (j .links)) e) in
+        let l = eqb-true links (j .links) (and-right (eqb cells (j .cells)) (eqb links (j .links)) e) in
+        let few : length v ≤ 120 = omega (arith, A .cells-few) in
+        handed-small room v (keptVerdict j v y) few (kept-small j A v y few (omega (arith, A .links-few)))
+    go false e = refusal-small 12 0 (omega arith) (omega arith)
+
+in-small : (w c : ℕ) (j : Job) → Allowed j → (room : ℕ) (s : List ℕ) → Small (fetchIn w c j room s .answer)
+unfolding fetchIn fetchAt
+in-small w c j A room s = go (lowest (hasJob (j .number)) w c s)
+  where
+    go : (o : Slot) → Small (atSlot o (λ p. fetchAt j room (drop (w * p) s)) (refusal 12 0) .answer)
+    go (At p) =
+        let x = drop (w * p) s in
+        table-small j A room (keptCells x) (keptLinks x) (keptValues x) (keptMultipliers x)
+        (omega (arith, length-take (keptCells x) (drop headSize x))) (omega (arith, length-take (keptLinks x) (drop valuesEnd x)))
+    go Nowhere = refusal-small 12 0 (omega arith) (omega arith)
+
+fetch-small : (l : Layout) (job : List ℕ) (room : ℕ) (shelf : List ℕ) → Small (fetchReply l job room shelf .answer)
+unfolding fetchReply
+fetch-small l job room shelf = go (readJob job .outcome) refl (job-read-near job)
+  where
+    go : (o : Outcome) → readJob job .outcome ≡ o → Near 20920 o → Small (onJob o (fetchFrom l (jobOf (readJob job .words)) room shelf) .answer)
+    go (Done k) e h = in-small (l .words) (l .count (jobOf (readJob job .words) .society)) (jobOf (readJob job .words)) (read-jobs-allowed job k e) room (spanOf l (jobOf (readJob job .words) .society) shelf)
+    go (Refuses number place) e h = record { number = omega (arith, h .1); place = h .2 }
 
 forget-small : (w c job : ℕ) (s : List ℕ) → Small (forgetReply w c job s .answer)
 unfolding forgetReply
@@ -53,9 +105,9 @@ society-small society f shelf k = go (leb society 7)
     go false = refusal-small 11 0 (omega arith) (omega arith)
 
 whole-small : (shelf : List ℕ) (call : Call) → Small (wholeSaid base shelf call .answer)
-unfolding keepReply checkedOf fetchReply forgotReply
+unfolding keepReply checkedOf forgotReply
 whole-small shelf (keep job proposal) = check-small job proposal
-whole-small shelf (fetch society job room) = society-small society (fetchIn (base .words) (base .count society) job room) shelf (in-small (base .words) (base .count society) job room)
+whole-small shelf (fetch job room) = fetch-small base job room shelf
 whole-small shelf (forget society job) = society-small society (forgetReply (base .words) (base .count society) job) shelf (forget-small (base .words) (base .count society) job)
 whole-small shelf clear = refusal-small 0 0 (omega arith) (omega arith)
 

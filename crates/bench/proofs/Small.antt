@@ -53,7 +53,7 @@ among-small number x n later h m l = go (ltb x n) refl
     go true e = record { number = h; place = omega (arith, ltb-true x n e) }
     go false e = l
 
-verdict-small : (j : Job) → Allowed j → (v y : ℕ → ℤ) → Small (answerOf (verdictOf j v y))
+pub verdict-small : (j : Job) → Allowed j → (v y : ℕ → ℤ) → Small (answerOf (verdictOf j v y))
 unfolding verdictOf
 verdict-small j A v y =
     among-small 7 (lowestFailing (inBox j v) (j .cells)) (j .cells)

@@ -51,6 +51,6 @@ abbrev pub ShelfSays : (call : Call) → (shelf answer : List ℕ) → (returned
 ShelfSays call shelf answer = Says (said base shelf call .answer) answer shelf (after base shelf call)
 
 -- Fetch hands out its values in front of the words that were lent.
-abbrev pub FetchSays : (shelf : List ℕ) (society job : ℕ) (out answer : List ℕ) → (returned : ℕ) (answered left : List ℕ) → Type 0
-FetchSays shelf society job out answer =
-    Says (said base shelf (fetch society job (length out)) .answer) answer out (overwritten out (said base shelf (fetch society job (length out)) .values))
+abbrev pub FetchSays : (shelf job out answer : List ℕ) → (returned : ℕ) (answered left : List ℕ) → Type 0
+FetchSays shelf job out answer =
+    Says (said base shelf (fetch job (length out)) .answer) answer out (overwritten out (said base shelf (fetch job (length out)) .values))

@@ -22,21 +22,20 @@ pub extern "C" fn bench_keep(
     give(answer, a)
 }
 
-// Hand out the values that are kept for a society under a job's number.
+// Hand out the values that are kept under a job pack's number, where the check accepts them for that job.
 #[no_mangle]
 pub extern "C" fn bench_fetch(
     shelf: &[u32],
-    society: u32,
-    job: u32,
+    job: &[u8],
     out: &mut [u32],
     answer: &mut [u64],
 ) -> u64
-    ensures { λ r. ⌜ FetchSays (now (shelf .entry)) society job (now (out .entry)) (now (answer .entry)) r (now (answer .exit)) (now (out .exit)) ⌝ }
+    ensures { λ r. ⌜ FetchSays (now (shelf .entry)) (now (job .entry)) (now (out .entry)) (now (answer .entry)) r (now (answer .exit)) (now (out .exit)) ⌝ }
 {
     if answer.len() != ANSWER_WORDS {
         return NO_ANSWER;
     }
-    let a = shelf::fetch(shelf, society, job, out);
+    let a = shelf::fetch(shelf, job, out);
     give(answer, a)
 }
 

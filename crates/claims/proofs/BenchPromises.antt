@@ -37,7 +37,7 @@ determined = record {
   read = λ job words answer r s a b x y f g. one f g;
   write = λ words out answer r s a b x y f g. one f g;
   on-shelf = λ call shelf answer r s a b x y f g. one f g;
-  fetch = λ shelf society job out answer r s a b x y f g. one f g;
+  fetch = λ shelf job out answer r s a b x y f g. one f g;
 }
 
 -- ---- numbers and places
@@ -109,9 +109,8 @@ numbered = record {
   write = λ words out answer r a x says. numbered-by (write-small (length out) words) says (13 ∷ []) 5 (inl refl) (write-number (length out) words);
   keep = λ job proposal shelf answer r a x says.
       numbered-by (said-small shelf (keep job proposal)) says (13 ∷ []) 9 (inl refl) (keep-number job proposal shelf);
-  fetch = λ shelf society job out answer r a x says.
-      numbered-by (said-small shelf (fetch society job (length out))) says (11 ∷ 12 ∷ 13 ∷ []) 0 (inr (inr (inl refl)))
-      (fetch-number shelf society job (length out));
+  fetch = λ shelf job out answer r a x says.
+      numbered-by (said-small shelf (fetch job (length out))) says (12 ∷ 13 ∷ []) 9 (inr (inl refl)) (fetch-number shelf job (length out));
   forget = λ society job shelf answer r a x says.
       numbered-by (said-small shelf (forget society job)) says (11 ∷ 12 ∷ 13 ∷ []) 0 (inr (inr (inl refl))) (forget-number shelf society job);
   clear = λ shelf answer r a x says. numbered-by (said-small shelf clear) says (13 ∷ []) 0 (inl refl) (clear-number shelf);
@@ -126,8 +125,8 @@ refusals-kept = record {
   read = λ job words answer r a x says n. kept-by (read-small (length words) job) says (read-kept (length words) job words) n;
   write = λ words out answer r a x says n. kept-by (write-small (length out) words) says (write-kept (length out) (writeJob words) out) n;
   on-shelf = λ call shelf answer r a x says n. kept-by (said-small shelf call) says (shelf-kept call shelf) n;
-  fetch = λ shelf society job out answer r a x says n.
-      kept-by (said-small shelf (fetch society job (length out))) says (fetch-kept (fetch society job (length out)) shelf out) n;
+  fetch = λ shelf job out answer r a x says n.
+      kept-by (said-small shelf (fetch job (length out))) says (fetch-kept (fetch job (length out)) shelf out) n;
 }
 
 pub rests-kept : RestsKept
@@ -141,10 +140,10 @@ rests-kept = record {
   write = λ words out answer r a x says z.
       let made = roomed (length out) (writeJob words) in
       rest-by (write-small (length out) words) says (λ m e. beyond-made (made .bytes) out m (omega (arith, e, write-within (length out) words))) z;
-  fetch = λ shelf society job out answer r a x says z.
-      let call = fetch society job (length out) in
+  fetch = λ shelf job out answer r a x says z.
+      let call = fetch job (length out) in
       rest-by (said-small shelf call) says
-      (λ m e. beyond-values (said base shelf call .values) out m (omega (arith, e, fetch-within shelf society job (length out)))) z;
+      (λ m e. beyond-values (said base shelf call .values) out m (omega (arith, e, fetch-within shelf job (length out)))) z;
 }
 
 pub accepted-told : AcceptedTold

@@ -5,9 +5,9 @@ use mathlib.Core.Bool.{Bool, true, false, cond}
 use mathlib.Core.List.{List, [], _∷_}
 use native.Mathlib.Omega.{arith}
 use lib.Dec.{eqb, leb, ltb}
-use lib.IntN.{ℤ}
+use lib.IntN.{ℤ, natAbs}
 use lib.Ieee.{Float}
-use lib.ListN.{length, take, drop, getD, set, length-take}
+use lib.ListN.{length, take, drop, set, length-take}
 use lib.Seq.{sets, drop-drop, drop-append-add}
 use Rattle.numbers.specs.Choice.{if_then_else_}
 use Rattle.fields.specs.declared.Field.the-variants.{Society}
@@ -20,13 +20,16 @@ use Rattle.jobs.specs.Job.{Job}
 use Rattle.jobs.specs.Words.{jobOf}
 use Rattle.jobs.specs.Packs.{handedOut, readJob, readJobInto, writeJob, writeProposal}
 use Rattle.jobs.proofs.Readings.{six-done, read-words-counted}
+use Rattle.measure.specs.declared.check.Verdict.{Verdict}
+use Rattle.measure.specs.declared.check.Verdict.the-variants.{Accepted, Refused as Denied}
 use Rattle.factor.specs.declared.Ending.{Ending}
 use Rattle.factor.specs.declared.Ending.the-variants.{Whole, Thin}
 use Rattle.house.specs.Proposal.{wordsOf, onEnding, solvedOf, proposedOf, onJobRead, proposeOf}
 use Rattle.shelf.specs.declared.Slot.{Slot}
 use Rattle.shelf.specs.declared.Slot.the-variants.{At, Nowhere}
-use Rattle.shelf.specs.Slots.{Reply, refusal, joined, lowest, hasJob, atSlot, fetchAt, fetchIn, overwritten}
-use Rattle.shelf.specs.Shelf.{base, spanOf, fromSociety, fromWhole, fetchReply}
+use Rattle.shelf.specs.Slots.{Reply, refusal, lowest, hasJob, atSlot, overwritten}
+use Rattle.shelf.specs.Fetched.{keptVerdict, handed as handedTo, sameCounts, fetchTable, keptCells, keptLinks, keptValues, keptMultipliers, fetchAt, fetchIn, onJob}
+use Rattle.shelf.specs.Shelf.{Layout, base, spanOf, fromWhole, fetchFrom, fetchReply}
 use Rattle.shelf.specs.Calls.{fetch, wholeSaid, said}
 use Rattle.bench.specs.Calls.{outcomeOf}
 use Rattle.claims.proofs.Unwritten.{handed}
@@ -108,34 +111,42 @@ propose-within room job = on-read-within room (readJob job .words) (readJob job 
 abbrev Handed : Reply → Type 0
 Handed r = length (r .values) ≤ r .answer .place
 
-at-handed : (room : ℕ) (x : List ℕ) → Handed (fetchAt room x)
-unfolding fetchAt
-at-handed room x = go (leb (getD x 0 0) room)
+out-handed : (room : ℕ) (v : List ℕ) (w : Verdict) → Handed (handedTo room v w)
+out-handed room v (Denied number place) = omega arith
+out-handed room v (Accepted F G) = go (leb (length v) room)
   where
-    go : (t : Bool) → Handed (cond t (record { answer = record { number = 0; place = getD x 0 0; loss = joined (getD x 2 0) (getD x 3 0); gap = joined (getD x 4 0) (getD x 5 0) }; values = take (getD x 0 0) (drop 6 x) }) (refusal 13 (getD x 0 0)))
-    go true = omega (arith, length-take (getD x 0 0) (drop 6 x))
+    go : (t : Bool) → Handed (cond t (record { answer = record { number = 0; place = length v; loss = natAbs F; gap = natAbs G }; values = v }) (refusal 13 (length v)))
+    go true = omega arith
     go false = omega arith
 
-in-handed : (w c job room : ℕ) (s : List ℕ) → Handed (fetchIn w c job room s)
-unfolding fetchIn
-in-handed w c job room s = go (lowest (hasJob job) w c s)
+table-handed : (j : Job) (room cells links : ℕ) (v y : List ℕ) → Handed (fetchTable j room cells links v y)
+unfolding fetchTable
+table-handed j room cells links v y = go (sameCounts j cells links)
   where
-    go : (o : Slot) → Handed (atSlot o (λ p. fetchAt room (drop (w * p) s)) (refusal 12 0))
-    go (At p) = at-handed room (drop (w * p) s)
+    go : (t : Bool) → Handed (cond t (handedTo room v (keptVerdict j v y)) (refusal 12 0))
+    go true = out-handed room v (keptVerdict j v y)
+    go false = omega arith
+
+in-handed : (w c : ℕ) (j : Job) (room : ℕ) (s : List ℕ) → Handed (fetchIn w c j room s)
+unfolding fetchIn fetchAt
+in-handed w c j room s = go (lowest (hasJob (j .number)) w c s)
+  where
+    go : (o : Slot) → Handed (atSlot o (λ p. fetchAt j room (drop (w * p) s)) (refusal 12 0))
+    go (At p) = let x = drop (w * p) s in table-handed j room (keptCells x) (keptLinks x) (keptValues x) (keptMultipliers x)
     go Nowhere = omega arith
 
-society-handed : (society job room : ℕ) (shelf : List ℕ) → Handed (wholeSaid base shelf (fetch society job room))
-unfolding fetchReply fromSociety
-society-handed society job room shelf = go (leb society 7)
+from-handed : (l : Layout) (job : List ℕ) (room : ℕ) (shelf : List ℕ) → Handed (fetchReply l job room shelf)
+unfolding fetchReply
+from-handed l job room shelf = go (readJob job .outcome)
   where
-    go : (t : Bool) → Handed (cond t (fetchIn (base .words) (base .count society) job room (spanOf base society shelf)) (refusal 11 0))
-    go true = in-handed (base .words) (base .count society) job room (spanOf base society shelf)
-    go false = omega arith
+    go : (o : Outcome) → Handed (onJob o (fetchFrom l (jobOf (readJob job .words)) room shelf))
+    go (Done k) = in-handed (l .words) (l .count (jobOf (readJob job .words) .society)) (jobOf (readJob job .words)) room (spanOf l (jobOf (readJob job .words) .society) shelf)
+    go (Refused number place) = omega arith
 
-pub fetch-within : (shelf : List ℕ) (society job room : ℕ) → Handed (said base shelf (fetch society job room))
+pub fetch-within : (shelf job : List ℕ) (room : ℕ) → Handed (said base shelf (fetch job room))
 unfolding fromWhole
-fetch-within shelf society job room = go (eqb (length shelf) (base .total))
+fetch-within shelf job room = go (eqb (length shelf) (base .total))
   where
-    go : (t : Bool) → Handed (cond t (wholeSaid base shelf (fetch society job room)) (refusal 13 (base .total)))
-    go true = society-handed society job room shelf
+    go : (t : Bool) → Handed (cond t (wholeSaid base shelf (fetch job room)) (refusal 13 (base .total)))
+    go true = from-handed base job room shelf
     go false = omega arith

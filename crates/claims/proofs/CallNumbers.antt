@@ -1,13 +1,14 @@
 -- Which numbers each call's answer can have: document 01's tests, one after another.
-use Prim.Native.Nat.{ℕ, _*_}
+use Prim.Native.Nat.{ℕ, _+_, _*_, _≤_}
 use mathlib.Core.Path.{_≡_, refl}
 use mathlib.Core.Logic.{inl, inr}
 use mathlib.Core.Bool.{Bool, true, false, cond}
 use mathlib.Core.List.{List, [], _∷_}
 use native.Mathlib.Omega.{arith}
 use lib.Dec.{eqb, leb, ltb}
-use lib.IntN.{ℤ}
-use lib.ListN.{length, take, drop, getD}
+use lib.IntN.{ℤ, natAbs}
+use lib.Signed.{leZ}
+use lib.ListN.{length, drop}
 use Rattle.numbers.specs.Choice.{if_then_else_}
 use Rattle.packs.specs.declared.Outcome.{Outcome}
 use Rattle.packs.specs.declared.Outcome.the-variants.{Done, Refused as Refuses}
@@ -21,16 +22,19 @@ use Rattle.jobs.proofs.Near.{job-read-near, job-written-near}
 use Rattle.jobs.proofs.Readings.{read-jobs-allowed}
 use Rattle.measure.specs.declared.check.Verdict.{Verdict}
 use Rattle.measure.specs.declared.check.Verdict.the-variants.{Accepted, Refused}
-use Rattle.measure.specs.Check.{checkOf}
+use Rattle.measure.specs.Loss.{lossOf}
+use Rattle.measure.specs.Gap.{gapOf}
+use Rattle.measure.specs.Check.{lowestFailing, inBox, holds as kept, verdictOf, valuesOf, multipliersOf, checkOf}
 use Rattle.factor.specs.declared.Ending.{Ending}
 use Rattle.factor.specs.declared.Ending.the-variants.{Whole, Thin}
 use Rattle.house.specs.Proposal.{wordsOf, onEnding, solvedOf, proposedOf, onJobRead, proposeOf}
 use Rattle.house.proofs.Writable.{house-writes}
 use Rattle.shelf.specs.declared.Slot.{Slot}
 use Rattle.shelf.specs.declared.Slot.the-variants.{At, Nowhere}
-use Rattle.shelf.specs.Slots.{Reply, refusal, done, joined, lowest, hasJob, atSlot, fetchAt, fetchIn, forgetReply}
+use Rattle.shelf.specs.Slots.{Reply, refusal, done, headSize, valuesEnd, lowest, hasJob, atSlot, forgetReply}
+use Rattle.shelf.specs.Fetched.{mostValue, mostMultiplier, lowestAbove, orSix, proposalOf, verdictFor, keptVerdict, handed as handedTo, sameCounts, fetchTable, keptCells, keptLinks, keptValues, keptMultipliers, fetchAt, fetchIn, onJob}
 use Rattle.shelf.specs.Checked.{checkedOf, answerOf}
-use Rattle.shelf.specs.Shelf.{base, spanOf, fromSociety, fromWhole, keepReply, fetchReply, forgotReply}
+use Rattle.shelf.specs.Shelf.{Layout, base, spanOf, fromSociety, fromWhole, keepReply, fetchFrom, fetchReply, forgotReply}
 use Rattle.shelf.specs.Calls.{Call, keep, fetch, forget, clear, wholeSaid, said}
 use Rattle.bench.specs.Calls.{outcomeOf}
 use Rattle.claims.specs.BenchPromises.{Among}
@@ -113,21 +117,68 @@ Held r = Among (11 ∷ 12 ∷ 13 ∷ []) 0 (r .answer .number)
 held-done : Among (11 ∷ 12 ∷ 13 ∷ []) 0 0
 held-done = inr (inr (inr (omega arith)))
 
-at-number : (room : ℕ) (x : List ℕ) → Held (fetchAt room x)
-unfolding fetchAt
-at-number room x = go (leb (getD x 0 0) room)
-  where
-    go : (b : Bool) → Held (cond b (record { answer = record { number = 0; place = getD x 0 0; loss = joined (getD x 2 0) (getD x 3 0); gap = joined (getD x 4 0) (getD x 5 0) }; values = take (getD x 0 0) (drop 6 x) }) (refusal 13 (getD x 0 0)))
-    go true = held-done
-    go false = inr (inr (inl refl))
+abbrev Presented : Reply → Type 0
+Presented r = Among (12 ∷ 13 ∷ []) 9 (r .answer .number)
 
-fetch-in-number : (w c job room : ℕ) (s : List ℕ) → Held (fetchIn w c job room s)
-unfolding fetchIn
-fetch-in-number w c job room s = go (lowest (hasJob job) w c s)
+abbrev Nine : Verdict → Type 0
+Nine v = answerOf v .number ≤ 9
+
+six-number : (first most : ℕ) (numbers : List ℕ) (later : Verdict) → Nine later → Nine (orSix first most numbers later)
+six-number first most numbers later h = go (ltb (lowestAbove most numbers) (length numbers))
   where
-    go : (o : Slot) → Held (atSlot o (λ p. fetchAt room (drop (w * p) s)) (refusal 12 0))
-    go (At p) = at-number room (drop (w * p) s)
-    go Nowhere = inr (inl refl)
+    go : (b : Bool) → Nine (if b then Refused 6 (first + lowestAbove most numbers) else later)
+    go true = omega arith
+    go false = h
+
+verdict-number : (j : Job) (v y : ℕ → ℤ) → Nine (verdictOf j v y)
+unfolding verdictOf
+verdict-number j v y = go (ltb (lowestFailing (inBox j v) (j .cells)) (j .cells)) (ltb (lowestFailing (kept j v) (j .links)) (j .links)) (leZ (gapOf j v y) (j .tolerance))
+  where
+    go : (a b c : Bool)
+        → Nine (if a then Refused 7 (lowestFailing (inBox j v) (j .cells)) else (if b then Refused 8 (lowestFailing (kept j v) (j .links)) else (if c then Accepted (lossOf j v) (gapOf j v y) else Refused 9 0)))
+    go true b c = omega arith
+    go false true c = omega arith
+    go false false true = omega arith
+    go false false false = omega arith
+
+kept-number : (j : Job) (v y : List ℕ) → Nine (keptVerdict j v y)
+unfolding keptVerdict
+kept-number j v y =
+    let last = verdictFor j (proposalOf v y) in
+    six-number headSize mostValue v (orSix valuesEnd mostMultiplier y last)
+    (six-number valuesEnd mostMultiplier y last (verdict-number j (valuesOf (proposalOf v y)) (multipliersOf (j .cells) (proposalOf v y))))
+
+handed-out-number : (room : ℕ) (v : List ℕ) (w : Verdict) → Nine w → Presented (handedTo room v w)
+handed-out-number room v (Refused number place) h = inr (inr h)
+handed-out-number room v (Accepted F G) h = go (leb (length v) room)
+  where
+    go : (b : Bool) → Presented (cond b (record { answer = record { number = 0; place = length v; loss = natAbs F; gap = natAbs G }; values = v }) (refusal 13 (length v)))
+    go true = inr (inr (omega arith))
+    go false = inr (inl refl)
+
+table-number : (j : Job) (room cells links : ℕ) (v y : List ℕ) → Presented (fetchTable j room cells links v y)
+unfolding fetchTable
+table-number j room cells links v y = go (sameCounts j cells links)
+  where
+    go : (b : Bool) → Presented (cond b (handedTo room v (keptVerdict j v y)) (refusal 12 0))
+    go true = handed-out-number room v (keptVerdict j v y) (kept-number j v y)
+    go false = inl refl
+
+fetch-in-number : (w c : ℕ) (j : Job) (room : ℕ) (s : List ℕ) → Presented (fetchIn w c j room s)
+unfolding fetchIn fetchAt
+fetch-in-number w c j room s = go (lowest (hasJob (j .number)) w c s)
+  where
+    go : (o : Slot) → Presented (atSlot o (λ p. fetchAt j room (drop (w * p) s)) (refusal 12 0))
+    go (At p) = let x = drop (w * p) s in table-number j room (keptCells x) (keptLinks x) (keptValues x) (keptMultipliers x)
+    go Nowhere = inl refl
+
+fetch-from-number : (l : Layout) (job : List ℕ) (room : ℕ) (shelf : List ℕ) → Presented (fetchReply l job room shelf)
+unfolding fetchReply
+fetch-from-number l job room shelf = go (readJob job .outcome) (job-read-near job)
+  where
+    go : (o : Outcome) → Near 20920 o → Presented (onJob o (fetchFrom l (jobOf (readJob job .words)) room shelf))
+    go (Done k) h = fetch-in-number (l .words) (l .count (jobOf (readJob job .words) .society)) (jobOf (readJob job .words)) room (spanOf l (jobOf (readJob job .words) .society) shelf)
+    go (Refuses number place) h = inr (inr (omega (arith, h .1)))
 
 forget-in-number : (w c job : ℕ) (s : List ℕ) → Held (forgetReply w c job s)
 unfolding forgetReply
@@ -159,11 +210,8 @@ pub keep-number : (job proposal shelf : List ℕ) → Among (13 ∷ []) 9 (said 
 unfolding keepReply checkedOf
 keep-number job proposal shelf = whole-number (13 ∷ []) 9 shelf (keep job proposal) (inl refl) (check-number job proposal)
 
-pub fetch-number : (shelf : List ℕ) (society job room : ℕ) → Held (said base shelf (fetch society job room))
-unfolding fetchReply
-fetch-number shelf society job room =
-    whole-number (11 ∷ 12 ∷ 13 ∷ []) 0 shelf (fetch society job room) (inr (inr (inl refl)))
-    (society-number society (fetchIn (base .words) (base .count society) job room) shelf (fetch-in-number (base .words) (base .count society) job room))
+pub fetch-number : (shelf job : List ℕ) (room : ℕ) → Presented (said base shelf (fetch job room))
+fetch-number shelf job room = whole-number (12 ∷ 13 ∷ []) 9 shelf (fetch job room) (inr (inl refl)) (fetch-from-number base job room shelf)
 
 pub forget-number : (shelf : List ℕ) (society job : ℕ) → Held (said base shelf (forget society job))
 unfolding forgotReply

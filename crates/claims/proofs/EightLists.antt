@@ -9,9 +9,15 @@ use native.Mathlib.Omega.{arith}
 use lib.Dec.{eqb, leb}
 use lib.ListN.{length, replicate, length-append, length-replicate, replicate-append-replicate}
 use borrow.Author.Tests.{leb-true, eqb-true, eqb-false}
-use Rattle.shelf.specs.Slots.{Reply, refusal, leastWords, keptIn, forgotIn, forgetReply, fetchIn}
+use Rattle.packs.specs.declared.Outcome.{Outcome}
+use Rattle.packs.specs.declared.Outcome.the-variants.{Done, Refused as Refuses}
+use Rattle.jobs.specs.Words.{jobOf}
+use Rattle.jobs.specs.Packs.{readJob}
+use Rattle.jobs.proofs.Readings.{read-jobs-allowed}
+use Rattle.shelf.specs.Slots.{Reply, refusal, leastWords, keptIn, forgotIn, forgetReply}
+use Rattle.shelf.specs.Fetched.{fetchIn, onJob}
 use Rattle.shelf.specs.Checked.{Checked, checkedOf, accepted}
-use Rattle.shelf.specs.Shelf.{Layout, slotFrom, spanOf, sizeOf, onSociety, fromSociety, keptShelf, fetchReply, forgotShelf, forgotReply, cleared}
+use Rattle.shelf.specs.Shelf.{Layout, slotFrom, spanOf, sizeOf, onSociety, fromSociety, keptShelf, fetchFrom, fetchReply, forgotShelf, forgotReply, cleared}
 use Rattle.shelf.specs.Calls.{Call, keep, fetch, forget, clear, wholeAfter, wholeSaid, after, said, shelfRun}
 use Rattle.shelf.proofs.Moves.{slot-length}
 use Rattle.shelf.proofs.Lengths.{on-whole, from-whole}
@@ -35,7 +41,7 @@ laid-length w (suc c) [] h a =
     omega (arith, length-append (replicate {A = ℕ} w 0) (laid w c []), length-replicate {A = ℕ} w 0, mul-suc w c)
 laid-length w (suc c) (t ∷ ts) h a =
     let k = laid-length w c ts h (a .1) in
-    let l : length (slot w t) ≡ w = slot-length w (t .job) (t .loss) (t .gap) (t .values) (omega arith) in
+    let l : length (slot w t) ≡ w = slot-length w (t .job) (t .loss) (t .gap) (t .values) (t .multipliers) (a .0 .1) (omega (arith, a .0 .2)) in
     omega (arith, length-append (slot w t) (laid w c ts), mul-suc w c)
 
 laid-none : (w c : ℕ) → laid w c [] ≡ replicate (w * c) 0
@@ -93,7 +99,7 @@ module _ (l : Layout) (ok : Lawful l) where
       record {
         words = ap (keptIn (l .words) c (o .job) (slotFrom l o)) (k .words) ∙ kept-laid (l .words) (ok .wide) (tableFrom o) c ts pos (k .few) (k .fit);
         few = few-kept (tableFrom o) ts c pos (k .few);
-        fit = all-kept Fits (tableFrom o) ts c (sound .some, sound .few) (k .fit);
+        fit = all-kept Fits (tableFrom o) ts c (sound .some, sound .few, sound .links) (k .fit);
       }
 
   held-removed : (s j : ℕ) (ts : List Table) (x : List ℕ) → Own s ts x → Own s (removed j ts) (forgotIn (l .words) (l .count s) j x)
@@ -116,16 +122,23 @@ module _ (l : Layout) (ok : Lawful l) where
   whole-after : (call : Call) (xs : List ℕ) (lists : Lists) → Sim l xs lists → Sim l (wholeAfter l xs call) (listsAfter (l .count) lists call)
   unfolding forgotShelf
   whole-after (keep job proposal) xs lists sim = kept-sim (checkedOf job proposal) (accepted-sound job proposal) xs lists sim
-  whole-after (fetch society job room) xs lists sim = sim
+  whole-after (fetch job room) xs lists sim = sim
   whole-after (forget society job) xs lists sim = sim-on society (forgotIn (l .words) (l .count society) job) (removed job) (λ h. held-removed society job) xs lists sim
   whole-after clear xs lists sim = sim-cleared
 
   whole-said : (call : Call) (xs : List ℕ) (lists : Lists) → Sim l xs lists → wholeSaid l xs call ≡ listsSay lists call
   unfolding fetchReply forgotReply
   whole-said (keep job proposal) xs lists sim = refl
-  whole-said (fetch society job room) xs lists sim =
-      let c = l .count society in
-      sim-from society (fetchIn (l .words) c job room) (fetched job room) (λ ts x k. ap {B = Reply} (fetchIn (l .words) c job room) (k .words) ∙ fetched-laid (l .words) (ok .wide) job room c ts (k .few) (k .fit)) xs lists sim
+  whole-said (fetch job room) xs lists sim = go (readJob job .outcome) refl
+    where
+      go : (o : Outcome) → readJob job .outcome ≡ o
+          → onJob o (fetchFrom l (jobOf (readJob job .words)) room xs) ≡ onJob o (fetched (jobOf (readJob job .words)) room (lists (jobOf (readJob job .words) .society)))
+      go (Done k) e =
+          let j = jobOf (readJob job .words) in
+          let c = l .count (j .society) in
+          let held = sim .spans (j .society) (read-jobs-allowed job k e .society) in
+          ap {B = Reply} (fetchIn (l .words) c j room) (held .words) ∙ fetched-laid (l .words) (ok .wide) j room c (lists (j .society)) (held .few) (held .fit)
+      go (Refuses number place) e = refl
   whole-said (forget society job) xs lists sim =
       let c = l .count society in
       sim-from society (forgetReply (l .words) c job) (forgotten job) (λ ts x k. ap {B = Reply} (forgetReply (l .words) c job) (k .words) ∙ forgotten-laid (l .words) (ok .wide) job c ts (k .few) (k .fit)) xs lists sim

@@ -1,30 +1,42 @@
--- A fetched table was accepted: every table of a list came from a keep that was sent and accepted.
-use Prim.Native.Nat.{ℕ, zero, suc, _<_}
+-- A fetched table is accepted for the job presented: every table of a list came from a keep that was sent and accepted, and the check of its proposal
+-- against that job is what the fetch went by.
+use Prim.Native.Nat.{ℕ}
 use mathlib.Core.Path.{_≡_, refl, sym, ap, _∙_, subst}
 use mathlib.Core.Logic.{inl, inr}
 use mathlib.Core.Bool.{Bool, true, false, cond}
-use mathlib.Core.List.{List, [], _∷_, map}
+use mathlib.Core.List.{List, [], _∷_}
 use native.Mathlib.Omega.{arith}
 use borrow.Author.Tests.{eqb-true}
 use lib.Dec.{eqb, leb}
 use lib.IntN.{pos, natAbs}
-use lib.ListN.{length, take, getD}
-use Rattle.measure.specs.Check.{checkOf}
+use lib.ListN.{length}
+use Rattle.packs.specs.declared.Outcome.{Outcome}
+use Rattle.packs.specs.declared.Outcome.the-variants.{Done, Refused as Refuses}
+use Rattle.packs.specs.Reading.{Ran}
+use Rattle.jobs.specs.Job.{Job}
+use Rattle.jobs.specs.Words.{wordAt}
+use Rattle.jobs.specs.Packs.{readJob}
+use Rattle.measure.specs.declared.check.Verdict.{Verdict}
+use Rattle.measure.specs.declared.check.Verdict.the-variants.{Accepted, Refused}
+use Rattle.measure.specs.Check.{onRead, proposalVerdict, checkOf}
 use Rattle.shelf.specs.Slots.{Reply, refusal}
 use Rattle.shelf.specs.Checked.{Checked, checkedOf, accepted, valuesOf}
+use Rattle.shelf.specs.Fetched.{handed, sameCounts, onJob}
 use Rattle.shelf.specs.Shelf.{Layout, cleared}
 use Rattle.shelf.specs.Calls.{Call, keep, fetch, forget, clear, said}
+use Rattle.shelf.proofs.Picked.{and-left, and-right}
 use Rattle.shelf.proofs.Spans.{Lawful}
-use Rattle.shelf.proofs.Values.{map-at}
-use Rattle.shelf.proofs.Sound.{Packed, accepted-read, values-count}
-use Rattle.claims.specs.Read.{jobIn, proposalIn, valuesIn}
-use Rattle.claims.specs.Lists.{Table, tableFrom, isOf, handed, fetched, kept, removed, Lists, onList, nothing, keptLists, listsAfter}
-use Rattle.claims.specs.LastKept.{shelfAfter, listsAfterAll, held, given}
-use Rattle.claims.specs.Fetched.{Sent, WasAccepted}
+use Rattle.shelf.proofs.Sound.{accepted-read, values-count, multipliers-count}
+use Rattle.claims.specs.Read.{jobIn, Reads}
+use Rattle.claims.specs.Lists.{Table, tableFrom, tableFor, isOf, fetched, kept, removed, Lists, onList, nothing, keptLists, listsAfter}
+use Rattle.claims.specs.LastKept.{shelfAfter, listsAfterAll, held}
+use Rattle.claims.specs.Fetched.{Sent, IsAccepted}
+use Rattle.claims.proofs.Accepted.{no-other-refusal}
 use Rattle.claims.proofs.Told.{verdicted}
 use Rattle.claims.proofs.Best.{best}
 use Rattle.claims.proofs.Tables.{All, all-kept, all-removed}
 use Rattle.claims.proofs.EightLists.{sim-said, sim-cleared}
+use Rattle.claims.proofs.AsChecked.{value-kept, same-proposal, fetched-checked, counts-refused}
 use Rattle.claims.proofs.LastKept.{sim-all}
 
 -- ---- what holds of every kept table holds of every table of the lists
@@ -55,7 +67,7 @@ module _ (P : (society : ℕ) → Table → Type 0) (count : ℕ → ℕ) where
 
   each-after : (call : Call) (calls : List Call) → New (call ∷ calls) → (lists : Lists) → Each lists → Each (listsAfter count lists call)
   each-after (keep job proposal) calls new lists a = each-kept (checkedOf job proposal) (new job proposal (inl refl)) lists a
-  each-after (fetch s job room) calls new lists a = a
+  each-after (fetch job room) calls new lists a = a
   each-after (forget s job) calls new lists a = each-removed s job lists a
   each-after clear calls new lists a = λ s. tt
 
@@ -77,69 +89,92 @@ came count calls society =
     each-all (Came calls) count calls (λ job proposal sent e. record { job = job; proposal = proposal; sent = sent; yes = e; its-society = refl; is = refl }) nothing (λ s. tt) society
 
 -- a fetch that is done gives one of them
-record Gives (P : Table → Type 0) (job : ℕ) (r : Reply) : Type 0 where
+record Gives (P : Table → Type 0) (j : Job) (room : ℕ) (r : Reply) : Type 0 where
   table : Table
   holds : P table
-  its-job : table .job ≡ job
-  is : r ≡ given table
+  its-job : table .job ≡ j .number
+  is : r ≡ tableFor j room table
 
-handed-gives : (P : Table → Type 0) (job room : ℕ) (t : Table) → P t → t .job ≡ job → handed room t .answer .number ≡ 0 → Gives P job (handed room t)
-handed-gives P job room t p e n = go (leb (length (t .values)) room) n
+fetched-gives : (P : Table → Type 0) (j : Job) (room : ℕ) (ts : List Table) → All P ts → fetched j room ts .answer .number ≡ 0 → Gives P j room (fetched j room ts)
+fetched-gives P j room [] a n = absurd (omega (arith, n))
+fetched-gives P j room (t ∷ ts) a n = go (isOf (j .number) t) refl n (fetched-gives P j room ts (a .1))
   where
-    go : (b : Bool) → cond b (given t) (refusal 13 (length (t .values))) .answer .number ≡ 0 → Gives P job (cond b (given t) (refusal 13 (length (t .values))))
-    go true m = record { table = t; holds = p; its-job = e; is = refl }
-    go false m = absurd (omega (arith, m))
-
-fetched-gives : (P : Table → Type 0) (job room : ℕ) (ts : List Table) → All P ts → fetched job room ts .answer .number ≡ 0 → Gives P job (fetched job room ts)
-fetched-gives P job room [] a n = absurd (omega (arith, n))
-fetched-gives P job room (t ∷ ts) a n = go (isOf job t) refl n (fetched-gives P job room ts (a .1))
-  where
-    go : (b : Bool) → isOf job t ≡ b → cond b (handed room t) (fetched job room ts) .answer .number ≡ 0 → (fetched job room ts .answer .number ≡ 0 → Gives P job (fetched job room ts))
-        → Gives P job (cond b (handed room t) (fetched job room ts))
-    go true e m k = handed-gives P job room t (a .0) (eqb-true (t .job) job e) m
+    go : (b : Bool) → isOf (j .number) t ≡ b → cond b (tableFor j room t) (fetched j room ts) .answer .number ≡ 0 → (fetched j room ts .answer .number ≡ 0 → Gives P j room (fetched j room ts))
+        → Gives P j room (cond b (tableFor j room t) (fetched j room ts))
+    go true e m k = record { table = t; holds = a .0; its-job = eqb-true (t .job) (j .number) e; is = refl }
     go false e m k = k m
 
 -- ---- what stands behind a table
-take-getD : (n i : ℕ) (xs : List ℕ) → i < n → getD (take n xs) i 0 ≡ getD xs i 0
-take-getD zero i xs h = absurd (omega (arith, h))
-take-getD (suc n) i [] h = refl
-take-getD (suc n) zero (x ∷ xs) h = refl
-take-getD (suc n) (suc i) (x ∷ xs) h = take-getD n i xs (omega arith)
+-- a table that is handed out has the job's counts
+counts-same : (j : Job) (room : ℕ) (t : Table) → tableFor j room t .answer .number ≡ 0 → (length (t .values) ≡ j .cells) × (length (t .multipliers) ≡ j .links)
+counts-same j room t n = go (sameCounts j (length (t .values)) (length (t .multipliers))) refl
+  where
+    go : (b : Bool) → sameCounts j (length (t .values)) (length (t .multipliers)) ≡ b → (length (t .values) ≡ j .cells) × (length (t .multipliers) ≡ j .links)
+    go true e =
+        let a = eqb (length (t .values)) (j .cells) in
+        let b = eqb (length (t .multipliers)) (j .links) in
+        (eqb-true (length (t .values)) (j .cells) (and-left a b e), eqb-true (length (t .multipliers)) (j .links) (and-right a b e))
+    go false e = let z : _≡_ {A = ℕ} 12 0 = sym (ap (λ (r : Reply). r .answer .number) (counts-refused j room t e)) ∙ n in absurd (omega (arith, z))
 
-value-is : (job proposal : List ℕ) → Packed job proposal → (i : ℕ) → i < jobIn job .cells → pos (getD (valuesOf (jobIn job) proposal) i 0) ≡ valuesIn job proposal i
-value-is job proposal p i h =
-    ap pos (take-getD (jobIn job .cells) i (map natAbs (proposalIn job proposal .words)) h ∙ map-at (proposalIn job proposal .words) i) ∙ sym (p .proposed .value i h .natural)
+-- what the check's verdict on the kept proposal and the job presented hands out
+module _ (calls : List Call) (job : List ℕ) (room : ℕ) (reads : Reads (readJob job .outcome)) (old proposal : List ℕ) (yes : accepted (checkOf old proposal) ≡ true)
+    (sent : Sent (keep old proposal) calls) (es : jobIn old .society ≡ jobIn job .society) (en : jobIn old .number ≡ jobIn job .number)
+    (ec : jobIn job .cells ≡ jobIn old .cells) (el : jobIn job .links ≡ jobIn old .links) where
+  abbrev vs : List ℕ
+  vs = valuesOf (jobIn old) proposal
 
-behind : (calls : List Call) (society number : ℕ) (t : Table) → Came calls society t → t .job ≡ number → WasAccepted calls society number (given t)
+  by-verdict : (v : Verdict) → checkOf job proposal ≡ v → handed room vs v .answer .number ≡ 0 → IsAccepted calls job (handed room vs v)
+  by-verdict (Refused number place) q m = absurd (omega (arith, m, no-other-refusal job proposal number place q .0))
+  by-verdict (Accepted F G) q m = go (leb (length vs) room) m
+    where
+      reply : Bool → Reply
+      reply b = cond b (record { answer = record { number = 0; place = length vs; loss = natAbs F; gap = natAbs G }; values = vs }) (refusal 13 (length vs))
+
+      told : checkOf job proposal ≡ Accepted (pos (natAbs F)) (pos (natAbs G))
+      told = verdicted job proposal (Accepted F G) q refl .as-answered
+
+      go : (b : Bool) → reply b .answer .number ≡ 0 → IsAccepted calls job (reply b)
+      go true z = record {
+        kept-under = old;
+        proposal = proposal;
+        sent = sent;
+        its-society = es;
+        its-number = en;
+        accepted = told;
+        count = values-count old proposal (accepted-read old proposal yes) ∙ sym ec;
+        values = λ i h. value-kept old proposal yes i (omega arith) ∙ sym (ap (λ (r : Ran). wordAt (r .words) i) (same-proposal old proposal yes job reads ec el));
+        best = best job proposal (pos (natAbs F)) (pos (natAbs G)) told;
+      }
+      go false z = absurd (omega (arith, z))
+
+behind : (calls : List Call) (job : List ℕ) (room : ℕ) → Reads (readJob job .outcome) → (t : Table) → Came calls (jobIn job .society) t → t .job ≡ jobIn job .number
+    → tableFor (jobIn job) room t .answer .number ≡ 0 → IsAccepted calls job (tableFor (jobIn job) room t)
 unfolding checkedOf
-behind calls society number t k e =
-    let job = k .job in
+behind calls job room reads t k e n =
+    let old = k .job in
     let proposal = k .proposal in
-    let p = accepted-read job proposal (k .yes) in
-    let q = verdicted job proposal (checkOf job proposal) refl (k .yes) .as-answered in
-    subst (λ (x : Table). WasAccepted calls society number (given x)) (sym (k .is))
-    (record {
-      job = job;
-      proposal = proposal;
-      sent = k .sent;
-      its-society = k .its-society;
-      its-number = sym (ap (λ (x : Table). x .job) (k .is)) ∙ e;
-      accepted = q;
-      count = values-count job proposal p;
-      values = value-is job proposal p;
-      best = best job proposal _ _ q;
-    })
+    let packed = accepted-read old proposal (k .yes) in
+    let same = counts-same (jobIn job) room t n in
+    let ec : jobIn job .cells ≡ jobIn old .cells = sym (same .0) ∙ ap (λ (x : Table). length (x .values)) (k .is) ∙ values-count old proposal packed in
+    let el : jobIn job .links ≡ jobIn old .links = sym (same .1) ∙ ap (λ (x : Table). length (x .multipliers)) (k .is) ∙ multipliers-count old proposal packed in
+    let en : jobIn old .number ≡ jobIn job .number = sym (ap (λ (x : Table). x .job) (k .is)) ∙ e in
+    let r : tableFor (jobIn job) room t ≡ handed room (valuesOf (jobIn old) proposal) (checkOf job proposal) =
+    ap {B = Reply} (tableFor (jobIn job) room) (k .is) ∙ fetched-checked old proposal (k .yes) job reads ec el room in
+    subst (λ (x : Reply). IsAccepted calls job x) (sym r)
+    (by-verdict calls job room reads old proposal (k .yes) (k .sent) (k .its-society) en ec el (checkOf job proposal) refl (sym (ap (λ (x : Reply). x .answer .number) r) ∙ n))
 
 module _ (l : Layout) (ok : Lawful l) where
   -- for any lawful layout
-  pub fetched-of : (calls : List Call) (society job room : ℕ) → said l (shelfAfter l (cleared l) calls) (fetch society job room) .answer .number ≡ 0
-      → WasAccepted calls society job (said l (shelfAfter l (cleared l) calls) (fetch society job room))
-  fetched-of calls s j room n =
-      let r = sim-said l ok (fetch s j room) (shelfAfter l (cleared l) calls) (listsAfterAll (l .count) nothing calls) (sim-all l ok calls (cleared l) nothing (sim-cleared l ok)) in
-      subst (λ (x : Reply). WasAccepted calls s j x) (sym r) (go (leb s 7) (sym (ap (λ (x : Reply). x .answer .number) r) ∙ n))
+  pub fetched-of : (calls : List Call) (job : List ℕ) (room : ℕ) → said l (shelfAfter l (cleared l) calls) (fetch job room) .answer .number ≡ 0
+      → IsAccepted calls job (said l (shelfAfter l (cleared l) calls) (fetch job room))
+  fetched-of calls job room n =
+      let r = sim-said l ok (fetch job room) (shelfAfter l (cleared l) calls) (listsAfterAll (l .count) nothing calls) (sim-all l ok calls (cleared l) nothing (sim-cleared l ok)) in
+      subst (λ (x : Reply). IsAccepted calls job x) (sym r) (go (readJob job .outcome) refl (sym (ap (λ (x : Reply). x .answer .number) r) ∙ n))
     where
-      go : (b : Bool) → cond b (fetched j room (held (l .count) calls s)) (refusal 11 0) .answer .number ≡ 0 → WasAccepted calls s j (cond b (fetched j room (held (l .count) calls s)) (refusal 11 0))
-      go true m =
-          let g = fetched-gives (Came calls s) j room (held (l .count) calls s) (came (l .count) calls s) m in
-          subst (λ (x : Reply). WasAccepted calls s j x) (sym (g .is)) (behind calls s j (g .table) (g .holds) (g .its-job))
-      go false m = absurd (omega (arith, m))
+      go : (o : Outcome) → readJob job .outcome ≡ o → onJob o (fetched (jobIn job) room (held (l .count) calls (jobIn job .society))) .answer .number ≡ 0 → IsAccepted calls job (onJob o (fetched (jobIn job) room (held (l .count) calls (jobIn job .society))))
+      go (Done k) e m =
+          let j = jobIn job in
+          let ts = held (l .count) calls (j .society) in
+          let g = fetched-gives (Came calls (j .society)) j room ts (came (l .count) calls (j .society)) m in
+          subst (λ (x : Reply). IsAccepted calls job x) (sym (g .is)) (behind calls job room (k, e) (g .table) (g .holds) (g .its-job) (sym (ap (λ (x : Reply). x .answer .number) (g .is)) ∙ m))
+      go (Refuses number place) e m = absurd (omega (arith, m, no-other-refusal job [] number place (ap (λ (o : Outcome). onRead o (proposalVerdict (jobIn job) [])) e) .0))

@@ -1,33 +1,35 @@
 -- A span as a list of tables: they are laid out in order, then zeros. Each move of slots is the list's own step, for any words w of a slot and any count c of slots.
-use mathlib.Core.Path.{_≡_, refl, sym, ap, _∙_}
+use mathlib.Core.Path.{_≡_, refl, sym, ap, ap₂, _∙_}
 use mathlib.Core.Bool.{Bool, true, false, cond, not, _&&_, _||_}
 use mathlib.Core.List.{List, [], _∷_, _++_, append-nil, append-assoc}
-use Prim.Native.Nat.{ℕ, zero, suc, _-_, _*_, _<_, _≤_, zero-le}
-use native.Mathlib.Nat.{mod-add-div}
+use Prim.Native.Nat.{ℕ, zero, suc, _+_, _-_, _*_, _<_, _≤_, zero-le}
 use native.Mathlib.Omega.{arith}
 use lib.Dec.{eqb, leb, ltb}
-use lib.ListN.{length, take, drop, getD, replicate, length-replicate}
-use lib.Seq.{take-at}
+use lib.ListN.{length, take, drop, getD, replicate, length-append, length-replicate}
+use lib.Seq.{take-at, drop-at}
 use borrow.Author.Tests.{le-leb, ltb-true, ltb-false}
+use Rattle.jobs.specs.Job.{Job}
 use Rattle.shelf.specs.declared.Slot.{Slot}
 use Rattle.shelf.specs.declared.Slot.the-variants.{At, Nowhere}
-use Rattle.shelf.specs.Slots.{Reply, refusal, done, joined, lowWord, highWord, leastWords, headSize, slotOf, isFull, isEmpty, hasJob, lowest, pick, later, orElse, atSlot, putSlot, droppedSlot, pushed, slotFor, keptIn, forgotIn, forgetReply, fetchAt, fetchIn}
+use Rattle.shelf.specs.Slots.{Reply, refusal, done, mostCells, mostLinks, headSize, valuesEnd, leastWords, headOf, padded, slotOf, isFull, isEmpty, hasJob, lowest, pick, later, orElse, atSlot, putSlot, droppedSlot, pushed, slotFor, keptIn, forgotIn, forgetReply}
+use Rattle.shelf.specs.Fetched.{fetchTable, fetchAt, fetchIn}
+use Rattle.shelf.proofs.Stored.{padded-length}
 use Rattle.shelf.proofs.Moves.{slot-length, drop-first, put-first, put-next, lowest-step, replacedIn, forgot-step, replaced-step, forget-reply-step, fetch-step}
-use Rattle.claims.specs.Lists.{Table, isOf, holds, replaced, removed, youngest, kept, handed, fetched, forgotten}
+use Rattle.claims.specs.Lists.{Table, isOf, holds, replaced, removed, youngest, kept, tableFor, fetched, forgotten}
 use Rattle.claims.proofs.Tables.{All}
 
 -- ---- the words of a list of tables
 abbrev pub slot : ℕ → Table → List ℕ
-slot w t = slotOf w (t .job) (t .loss) (t .gap) (t .values)
+slot w t = slotOf w (t .job) (t .loss) (t .gap) (t .values) (t .multipliers)
 
 unfoldable pub laid : ℕ → ℕ → List Table → List ℕ
 laid w zero ts = []
 laid w (suc c) [] = replicate w 0 ++ laid w c []
 laid w (suc c) (t ∷ ts) = slot w t ++ laid w c ts
 
--- a table has 2 to 120 values
+-- a table has 2 to 120 values and at most 160 multipliers
 abbrev pub Fits : Table → Type 0
-Fits t = (2 ≤ length (t .values)) × (length (t .values) ≤ 120)
+Fits t = (2 ≤ length (t .values)) × (length (t .values) ≤ mostCells) × (length (t .multipliers) ≤ mostLinks)
 
 abbrev pub AllFit : List Table → Type 0
 AllFit ts = All Fits ts
@@ -39,7 +41,7 @@ head-zero (suc w) r h = refl
 
 module _ (w : ℕ) (wide : leastWords ≤ w) where
   slot-len : (t : Table) → Fits t → length (slot w t) ≡ w
-  slot-len t f = slot-length w (t .job) (t .loss) (t .gap) (t .values) (omega arith)
+  slot-len t f = slot-length w (t .job) (t .loss) (t .gap) (t .values) (t .multipliers) (f .1) (omega (arith, f .2))
 
   zero-len : length (replicate {A = ℕ} w 0) ≡ w
   zero-len = length-replicate w 0
@@ -47,7 +49,7 @@ module _ (w : ℕ) (wide : leastWords ≤ w) where
   module _ (t : Table) (f : Fits t) (r : List ℕ) where
     full : isFull (slot w t ++ r) ≡ true
     unfolding isFull slotOf
-    full = rw (le-leb 2 (length (t .values)) (f .0), le-leb (length (t .values)) 120 (f .1))
+    full = rw (le-leb 2 (length (t .values)) (f .0), le-leb (length (t .values)) mostCells (f .1))
 
     has : (j : ℕ) → hasJob j (slot w t ++ r) ≡ isOf j t
     unfolding hasJob slotOf
@@ -58,16 +60,25 @@ module _ (w : ℕ) (wide : leastWords ≤ w) where
     filled = ap not full
 
     -- reading a slot gives the table
-    read : (room : ℕ) → fetchAt room (slot w t ++ r) ≡ handed room t
+    read : (j : Job) (room : ℕ) → fetchAt j room (slot w t ++ r) ≡ tableFor j room t
     unfolding fetchAt slotOf
-    read room =
+    read j room =
         let v = t .values in
+        let y = t .multipliers in
         let n = length v in
-        let zs : List ℕ = replicate (w - headSize - n) 0 in
-        let vs : take n (v ++ zs ++ r) ≡ v = ap (take n) (append-assoc v zs r) ∙ take-at v (zs ++ r) n refl in
-        ap {B = Reply} (λ (l : List ℕ). cond (leb n room) (record { answer = record { number = 0; place = n; loss = joined (lowWord (t .loss)) (highWord (t .loss)); gap = joined (lowWord (t .gap)) (highWord (t .gap)) }; values = l }) (refusal 13 n)) vs
-        ∙ ap {B = Reply} (λ (x : ℕ). cond (leb n room) (record { answer = record { number = 0; place = n; loss = x; gap = joined (lowWord (t .gap)) (highWord (t .gap)) }; values = v }) (refusal 13 n)) (mod-add-div (t .loss) 4294967296)
-        ∙ ap {B = Reply} (λ (x : ℕ). cond (leb n room) (record { answer = record { number = 0; place = n; loss = t .loss; gap = x }; values = v }) (refusal 13 n)) (mod-add-div (t .gap) 4294967296)
+        let L = length y in
+        let h = headOf n (t .job) (t .loss) (t .gap) L in
+        let p = padded mostCells v in
+        let q = padded (w - valuesEnd) y in
+        let zs : List ℕ = replicate (mostCells - n) 0 in
+        let us : List ℕ = replicate (w - valuesEnd - L) 0 in
+        let all : (h ++ (p ++ q)) ++ r ≡ h ++ (p ++ (q ++ r)) = append-assoc h (p ++ q) r ∙ ap (λ (x : List ℕ). h ++ x) (append-assoc p q r) in
+        let front : length (h ++ p) ≡ valuesEnd = length-append h p ∙ ap (λ (k : ℕ). headSize + k) (padded-length mostCells v (f .1)) in
+        let vs : take n (drop headSize ((h ++ (p ++ q)) ++ r)) ≡ v = ap (λ (x : List ℕ). take n (drop headSize x)) all ∙ ap (take n) (append-assoc v zs (q ++ r)) ∙ take-at v (zs ++ (q ++ r)) n refl in
+        let ys : take L (drop valuesEnd ((h ++ (p ++ q)) ++ r)) ≡ y =
+        ap (λ (x : List ℕ). take L (drop valuesEnd x)) (all ∙ sym (append-assoc h p (q ++ r)))
+        ∙ ap (take L) (drop-at (h ++ p) (q ++ r) valuesEnd front ∙ append-assoc y us r) ∙ take-at y (us ++ r) L refl in
+        ap₂ {C = Reply} (λ (a b : List ℕ). fetchTable j room n L a b) vs ys
 
   hollow : (r : List ℕ) → isFull (replicate w 0 ++ r) ≡ false
   unfolding isFull
@@ -118,15 +129,15 @@ module _ (w : ℕ) (wide : leastWords ≤ w) where
       go false e = e
 
   -- ---- a fetch
-  pub fetched-laid : (j room c : ℕ) (ts : List Table) → length ts ≤ c → AllFit ts → fetchIn w c j room (laid w c ts) ≡ fetched j room ts
+  pub fetched-laid : (j : Job) (room c : ℕ) (ts : List Table) → length ts ≤ c → AllFit ts → fetchIn w c j room (laid w c ts) ≡ fetched j room ts
   unfolding laid fetchIn
-  fetched-laid j room c [] h a = ap {B = Reply} (λ (o : Slot). atSlot o (λ p. fetchAt room (drop (w * p) (laid w c []))) (refusal 12 0)) (seek-none j c)
+  fetched-laid j room c [] h a = ap {B = Reply} (λ (o : Slot). atSlot o (λ p. fetchAt j room (drop (w * p) (laid w c []))) (refusal 12 0)) (seek-none (j .number) c)
   fetched-laid j room zero (t ∷ ts) h a = absurd (omega arith)
   fetched-laid j room (suc c) (t ∷ ts) h a =
-      fetch-step w (slot w t) (laid w c ts) (slot-len t (a .0)) c j (isOf j t) (has t (a .0) (laid w c ts) j) room ∙ go (isOf j t) (fetched-laid j room c ts (omega arith) (a .1))
+      fetch-step w (slot w t) (laid w c ts) (slot-len t (a .0)) c j (isOf (j .number) t) (has t (a .0) (laid w c ts) (j .number)) room ∙ go (isOf (j .number) t) (fetched-laid j room c ts (omega arith) (a .1))
     where
-      go : (b : Bool) → fetchIn w c j room (laid w c ts) ≡ fetched j room ts → cond b (fetchAt room (slot w t ++ laid w c ts)) (fetchIn w c j room (laid w c ts)) ≡ cond b (handed room t) (fetched j room ts)
-      go true e = read t (a .0) (laid w c ts) room
+      go : (b : Bool) → fetchIn w c j room (laid w c ts) ≡ fetched j room ts → cond b (fetchAt j room (slot w t ++ laid w c ts)) (fetchIn w c j room (laid w c ts)) ≡ cond b (tableFor j room t) (fetched j room ts)
+      go true e = read t (a .0) (laid w c ts) j room
       go false e = e
 
   -- ---- a keep: where the job is

@@ -1,4 +1,4 @@
--- Demand 2's sentence: with room for it, a fetch gives the table last kept for that society under that job number, if it is among those that the rule still holds.
+-- Demand 2's sentence: a fetch gives the table last kept for that society under that job number, if it is among those that the rule still holds.
 -- Why: a list never has one job twice, so a table that stands in it under a job is the one kept last.
 use mathlib.Core.Path.{_≡_, refl, sym, ap, _∙_, subst}
 use mathlib.Core.Bool.{Bool, true, false, cond, _&&_, _||_, true≢false}
@@ -9,14 +9,25 @@ use native.Mathlib.Omega.{arith}
 use lib.Dec.{eqb, ltb}
 use lib.ListN.{length}
 use borrow.Author.Tests.{le-leb, eqb-true, eqb-false, eq-eqb, ne-eqb}
+use lib.IntN.{natAbs}
+use Rattle.packs.specs.declared.Outcome.{Outcome}
+use Rattle.jobs.specs.Job.{Job}
+use Rattle.jobs.specs.Packs.{readJob}
+use Rattle.measure.specs.declared.check.Verdict.{Verdict}
+use Rattle.measure.specs.declared.check.Verdict.the-variants.{Accepted, Refused}
+use Rattle.measure.specs.Check.{checkOf}
 use Rattle.shelf.specs.Slots.{Reply, refusal}
-use Rattle.shelf.specs.Checked.{Checked, checkedOf, accepted}
+use Rattle.shelf.specs.Checked.{Checked, checkedOf, accepted, answerOf, valuesOf, multipliersOf}
+use Rattle.shelf.specs.Fetched.{handed, onJob}
 use Rattle.shelf.specs.Shelf.{Layout, cleared}
 use Rattle.shelf.specs.Calls.{Call, keep, fetch, forget, clear, after, said}
-use Rattle.claims.specs.Lists.{Table, tableFrom, isOf, holds, replaced, removed, youngest, kept, handed, fetched, Lists, onList, nothing, keptLists, listsAfter}
+use Rattle.claims.specs.Lists.{Table, tableFrom, isOf, holds, replaced, removed, youngest, kept, tableFor, fetched, Lists, onList, nothing, keptLists, listsAfter}
 use Rattle.claims.specs.LastKept.{isFor, lastAfter, lastFrom, lastKept, shelfAfter, listsAfterAll, held, given}
+use Rattle.claims.specs.Read.{jobIn, Reads}
+use Rattle.shelf.proofs.Sound.{accepted-read, values-count}
 use Rattle.shelf.proofs.Spans.{Lawful}
 use Rattle.claims.proofs.EightLists.{Sim, sim-after, sim-said, sim-cleared}
+use Rattle.claims.proofs.AsChecked.{fetched-checked}
 
 clash : {A : Type 0} → false ≡ true → A
 clash e = absurd (true≢false (sym e))
@@ -245,7 +256,7 @@ module _ (count : ℕ → ℕ) (s j : ℕ) where
 
   last-after : (call : Call) (lists : Lists) (last : Option Table) → Last j (lists s) last → Last j (listsAfter count lists call s) (lastAfter s j last call)
   last-after (keep job proposal) lists last k = kept-after (checkedOf job proposal) lists last k
-  last-after (fetch t i room) lists last k = k
+  last-after (fetch i room) lists last k = k
   last-after (forget t i) lists last k = go (eqb s t)
     where
       go : (d : Bool) → Last j (cond d (removed i (lists s)) (lists s)) last
@@ -258,12 +269,13 @@ module _ (count : ℕ → ℕ) (s j : ℕ) where
   last-all (call ∷ calls) lists last k = last-all calls (listsAfter count lists call) (lastAfter s j last call) (last-after call lists last k)
 
 -- ---- a fetch hands out what is found
-fetched-found : (j room : ℕ) (ts : List Table) (t : Table) → found j ts ≡ some t → fetched j room ts ≡ handed room t
+fetched-found : (j : Job) (room : ℕ) (ts : List Table) (t : Table) → found (j .number) ts ≡ some t → fetched j room ts ≡ tableFor j room t
 fetched-found j room [] t f = none-some t f
-fetched-found j room (x ∷ ts) t f = go (isOf j x) f (λ g. fetched-found j room ts t g)
+fetched-found j room (x ∷ ts) t f = go (isOf (j .number) x) f (λ g. fetched-found j room ts t g)
   where
-    go : (b : Bool) → cond b (some x) (found j ts) ≡ some t → (found j ts ≡ some t → fetched j room ts ≡ handed room t) → cond b (handed room x) (fetched j room ts) ≡ handed room t
-    go true g k = let q : x ≡ t = cc in ap {B = Reply} (handed room) q
+    go : (b : Bool) → cond b (some x) (found (j .number) ts) ≡ some t → (found (j .number) ts ≡ some t → fetched j room ts ≡ tableFor j room t)
+        → cond b (tableFor j room x) (fetched j room ts) ≡ tableFor j room t
+    go true g k = let q : x ≡ t = cc in ap {B = Reply} (tableFor j room) q
     go false g k = k g
 
 holds-found : (j : ℕ) (ts : List Table) → holds j ts ≡ true → (t : Table) × (found j ts ≡ some t)
@@ -280,36 +292,56 @@ module _ (l : Layout) (ok : Lawful l) where
   sim-all (call ∷ calls) xs lists sim = sim-all calls (after l xs call) (listsAfter (l .count) lists call) (sim-after l ok call xs lists sim)
 
   -- for any lawful layout
-  pub last-of : (calls : List Call) → (society job room : ℕ) → society ≤ 7 → (t : Table) →
-      lastKept society job calls ≡ some t → holds job (held (l .count) calls society) ≡ true → length (t .values) ≤ room →
-      said l (shelfAfter l (cleared l) calls) (fetch society job room) ≡ given t
-  last-of calls s j room h t e p r =
-      let ts = held (l .count) calls s in
-      let f = holds-found j ts p in
-      let k = last-all (l .count) s j calls nothing none (record { distinct = tt; is = λ x g. none-some x g }) in
+  pub last-of : (calls : List Call) (job : List ℕ) (room : ℕ) → Reads (readJob job .outcome) → (t : Table)
+      → lastKept (jobIn job .society) (jobIn job .number) calls ≡ some t → holds (jobIn job .number) (held (l .count) calls (jobIn job .society)) ≡ true
+      → said l (shelfAfter l (cleared l) calls) (fetch job room) ≡ tableFor (jobIn job) room t
+  last-of calls job room reads t e p =
+      let j = jobIn job in
+      let ts = held (l .count) calls (j .society) in
+      let f = holds-found (j .number) ts p in
+      let k = last-all (l .count) (j .society) (j .number) calls nothing none (record { distinct = tt; is = λ x g. none-some x g }) in
       let q : f .0 ≡ t = cc (k .is (f .0) (f .1)) in
-      sim-said l ok (fetch s j room) (shelfAfter l (cleared l) calls) (listsAfterAll (l .count) nothing calls) (sim-all calls (cleared l) nothing (sim-cleared l ok))
-      ∙ ap {B = Reply} (λ (b : Bool). cond b (fetched j room ts) (refusal 11 0)) (le-leb s 7 h)
-      ∙ fetched-found j room ts (f .0) (f .1) ∙ ap {B = Reply} (handed room) q
-      ∙ ap {B = Reply} (λ (b : Bool). cond b (given t) (refusal 13 (length (t .values)))) (le-leb (length (t .values)) room r)
+      sim-said l ok (fetch job room) (shelfAfter l (cleared l) calls) (listsAfterAll (l .count) nothing calls) (sim-all calls (cleared l) nothing (sim-cleared l ok))
+      ∙ ap {B = Reply} (λ (o : Outcome). onJob o (fetched j room ts)) (reads .1)
+      ∙ fetched-found j room ts (f .0) (f .1) ∙ ap {B = Reply} (tableFor j room) q
+
+-- ---- with the job pack under which it was kept
+accepted-given : (room : ℕ) (job : ℕ) (vs ms : List ℕ) (v : Verdict) → accepted v ≡ true → length vs ≤ room
+    → handed room vs v ≡ given (record { job = job; loss = answerOf v .loss; gap = answerOf v .gap; values = vs; multipliers = ms })
+accepted-given room job vs ms (Accepted F G) y h =
+    ap {B = Reply} (λ (b : Bool). cond b (record { answer = record { number = 0; place = length vs; loss = natAbs F; gap = natAbs G }; values = vs }) (refusal 13 (length vs))) (le-leb (length vs) room h)
+accepted-given room job vs ms (Refused number place) y h = clash y
+
+module _ (l : Layout) (ok : Lawful l) where
+  pub same-of : (calls : List Call) (job proposal : List ℕ) (room : ℕ) → accepted (checkOf job proposal) ≡ true
+      → lastKept (jobIn job .society) (jobIn job .number) calls ≡ some (tableFrom (checkedOf job proposal))
+      → holds (jobIn job .number) (held (l .count) calls (jobIn job .society)) ≡ true → jobIn job .cells ≤ room
+      → said l (shelfAfter l (cleared l) calls) (fetch job room) ≡ given (tableFrom (checkedOf job proposal))
+  unfolding checkedOf
+  same-of calls job proposal room y e p r =
+      let packed = accepted-read job proposal y in
+      last-of l ok calls job room (packed .job-done) (tableFrom (checkedOf job proposal)) e p
+      ∙ fetched-checked job proposal y job (packed .job-done) refl refl room
+      ∙ accepted-given room (jobIn job .number) (valuesOf (jobIn job) proposal) (multipliersOf (jobIn job) proposal) (checkOf job proposal) y (omega (arith, values-count job proposal packed))
 
 -- ---- and no more than that is held
-fetched-lacks : (j room : ℕ) (ts : List Table) → holds j ts ≡ false → fetched j room ts ≡ refusal 12 0
+fetched-lacks : (j : Job) (room : ℕ) (ts : List Table) → holds (j .number) ts ≡ false → fetched j room ts ≡ refusal 12 0
 fetched-lacks j room [] h = refl
-fetched-lacks j room (t ∷ ts) h = go (isOf j t) h (λ k. fetched-lacks j room ts k)
+fetched-lacks j room (t ∷ ts) h = go (isOf (j .number) t) h (λ k. fetched-lacks j room ts k)
   where
-    go : (b : Bool) → (b || holds j ts) ≡ false → (holds j ts ≡ false → fetched j room ts ≡ refusal 12 0) → cond b (handed room t) (fetched j room ts) ≡ refusal 12 0
+    go : (b : Bool) → (b || holds (j .number) ts) ≡ false → (holds (j .number) ts ≡ false → fetched j room ts ≡ refusal 12 0) → cond b (tableFor j room t) (fetched j room ts) ≡ refusal 12 0
     go true f k = clash (sym f)
     go false f k = k f
 
 module _ (l : Layout) (ok : Lawful l) where
   -- what the rule holds no more is not found
-  pub lost-of : (calls : List Call) → (society job room : ℕ) → society ≤ 7 → holds job (held (l .count) calls society) ≡ false →
-      said l (shelfAfter l (cleared l) calls) (fetch society job room) ≡ refusal 12 0
-  lost-of calls s j room h p =
-      sim-said l ok (fetch s j room) (shelfAfter l (cleared l) calls) (listsAfterAll (l .count) nothing calls) (sim-all l ok calls (cleared l) nothing (sim-cleared l ok))
-      ∙ ap {B = Reply} (λ (b : Bool). cond b (fetched j room (held (l .count) calls s)) (refusal 11 0)) (le-leb s 7 h)
-      ∙ fetched-lacks j room (held (l .count) calls s) p
+  pub lost-of : (calls : List Call) (job : List ℕ) (room : ℕ) → Reads (readJob job .outcome) → holds (jobIn job .number) (held (l .count) calls (jobIn job .society)) ≡ false
+      → said l (shelfAfter l (cleared l) calls) (fetch job room) ≡ refusal 12 0
+  lost-of calls job room reads p =
+      let j = jobIn job in
+      sim-said l ok (fetch job room) (shelfAfter l (cleared l) calls) (listsAfterAll (l .count) nothing calls) (sim-all l ok calls (cleared l) nothing (sim-cleared l ok))
+      ∙ ap {B = Reply} (λ (o : Outcome). onJob o (fetched j room (held (l .count) calls (j .society)))) (reads .1)
+      ∙ fetched-lacks j room (held (l .count) calls (j .society)) p
 
   -- the rule holds at most the society's count
   pub few-held : (calls : List Call) → (society : ℕ) → society ≤ 7 → length (held (l .count) calls society) ≤ l .count society

@@ -13,6 +13,7 @@ pub mod Promises
 pub mod Tables
 pub mod Laid
 pub mod EightLists
+pub mod AsChecked
 pub mod LastKept
 pub mod NoNeighbour
 pub mod Refusals

@@ -1,4 +1,4 @@
--- No neighbour (document 01, "The shelf": "Every call reads and writes only its own society's 504 words"): what is done to one span is a function of
+-- No neighbour (document 01, "The shelf": "Every call reads and writes only its own society's … words"): what is done to one span is a function of
 -- that span and leaves every other, so what other societies send changes no answer to this one.
 use mathlib.Core.Path.{_≡_, refl, sym, ap, _∙_, subst}
 use mathlib.Core.Bool.{Bool, true, false, cond, not, true≢false}
@@ -9,10 +9,17 @@ use native.Mathlib.Omega.{arith}
 use lib.Dec.{eqb}
 use lib.ListN.{length}
 use borrow.Author.Tests.{eqb-true, eqb-false, eq-eqb, ne-eqb, not-false, not-true}
-use Rattle.shelf.specs.Slots.{Reply, keptIn, forgotIn, forgetReply, fetchIn}
+use lib.IntN.{ℤ, natAbs}
+use Rattle.packs.specs.declared.Outcome.{Outcome}
+use Rattle.packs.specs.declared.Outcome.the-variants.{Done, Refused as Refuses}
+use Rattle.jobs.specs.Words.{jobOf}
+use Rattle.jobs.specs.Packs.{readJob}
+use Rattle.jobs.proofs.Readings.{read-jobs-allowed}
+use Rattle.shelf.specs.Slots.{Reply, keptIn, forgotIn, forgetReply}
+use Rattle.shelf.specs.Fetched.{fetchIn, onJob}
 use Rattle.shelf.specs.Checked.{Checked, checkedOf, accepted, answerOf}
-use Rattle.shelf.specs.Shelf.{Layout, slotFrom, spanOf, sizeOf, onSociety, fromSociety, keptShelf, fetchReply, forgotShelf, forgotReply}
-use Rattle.shelf.specs.Calls.{Call, keep, fetch, forget, clear, wholeAfter, wholeSaid, after, said, named, is, isNot, names, namesOther}
+use Rattle.shelf.specs.Shelf.{Layout, slotFrom, spanOf, sizeOf, onSociety, fromSociety, keptShelf, fetchFrom, fetchReply, forgotShelf, forgotReply}
+use Rattle.shelf.specs.Calls.{Call, keep, fetch, forget, clear, wholeAfter, wholeSaid, after, said, firstOf, named, is, isNot, names, namesOther}
 use Rattle.shelf.proofs.Moves.{slot-length}
 use Rattle.shelf.proofs.Sizes.{kept-length, forgot-length}
 use Rattle.shelf.proofs.Spans.{Lawful, span-length, society-length, own, other, from-same, cleared-length}
@@ -51,7 +58,7 @@ module _ (l : Layout) (ok : Lawful l) where
   kept-same o xs len sound =
       let h = sound .society in
       kept-length (l .words) (l .count (o .society)) (spanOf l (o .society) xs) (span-length l ok (o .society) xs len h) (o .job) (slotFrom l o) (ok .some (o .society) h)
-      (slot-length (l .words) (o .job) (answerOf (o .verdict) .loss) (answerOf (o .verdict) .gap) (o .values) (omega (arith, sound .few, ok .wide)))
+      (slot-length (l .words) (o .job) (answerOf (o .verdict) .loss) (answerOf (o .verdict) .gap) (o .values) (o .multipliers) (sound .few) (omega (arith, sound .links, ok .wide)))
 
   forgot-same : (s job : ℕ) (xs : List ℕ) → Long xs → s ≤ 7 → length (forgetStep s job (spanOf l s xs)) ≡ sizeOf l s
   forgot-same s job xs len h = forgot-length (l .words) (l .count s) (spanOf l s xs) (span-length l ok s xs len h) job
@@ -68,7 +75,7 @@ module _ (l : Layout) (ok : Lawful l) where
   whole-length : (call : Call) (xs : List ℕ) → Long xs → Long (wholeAfter l xs call)
   unfolding forgotShelf
   whole-length (keep job proposal) xs len = kept-long (checkedOf job proposal) (accepted-sound job proposal) xs len
-  whole-length (fetch s job room) xs len = len
+  whole-length (fetch job room) xs len = len
   whole-length (forget s job) xs len = society-length l ok s (forgetStep s job) xs len (forgot-same s job xs len)
   whole-length clear xs len = cleared-length l ok
 
@@ -93,7 +100,7 @@ module _ (l : Layout) (ok : Lawful l) where
   whole-stays : (s : ℕ) → s ≤ 7 → (call : Call) (xs : List ℕ) → Long xs → namesOther s call ≡ true → spanOf l s (wholeAfter l xs call) ≡ spanOf l s xs
   unfolding forgotShelf
   whole-stays s m (keep job proposal) xs len n = kept-stays s m (checkedOf job proposal) (λ e. (accepted-sound job proposal e, named-not s job proposal n e)) xs len
-  whole-stays s m (fetch t job room) xs len n = refl
+  whole-stays s m (fetch job room) xs len n = refl
   whole-stays s m (forget t job) xs len n = other l ok t (forgetStep t job) xs len (forgot-same t job xs len) s m (eq-not t s n)
   whole-stays s m clear xs len n = absurd (true≢false (sym n))
 
@@ -123,14 +130,28 @@ module _ (l : Layout) (ok : Lawful l) where
 
     whole-own : (call : Call) → namesOther s call ≡ false → s ≤ 7 → spanOf l s (wholeAfter l xs call) ≡ spanOf l s (wholeAfter l ys call)
     whole-own (keep job proposal) n m = keep-same (checkedOf job proposal) (λ e. (accepted-sound job proposal e, named-this s job proposal n e)) m
-    whole-own (fetch t job room) n m = a m
+    whole-own (fetch job room) n m = a m
     whole-own (forget t job) n m = forget-same t job (eqb-true t s (not-false (eqb t s) n)) m
     whole-own clear n m = refl
 
     whole-told : (call : Call) → names s call ≡ true → wholeSaid l xs call ≡ wholeSaid l ys call
     unfolding fetchReply forgotReply
     whole-told (keep job proposal) n = refl
-    whole-told (fetch t job room) n = from-own t (fetchIn (l .words) (l .count t) job room) (eqb-true t s n)
+    whole-told (fetch job room) n = go (readJob job .outcome) refl
+      where
+        -- a pack that reads names its job's society
+        named-own : (words : List ℤ) → is s (firstOf words) ≡ true → jobOf words .society ≡ s
+        named-own [] e = absurd (true≢false (sym e))
+        named-own (word ∷ words) e = eqb-true (natAbs word) s e
+
+        go : (o : Outcome) → readJob job .outcome ≡ o → onJob o (fetchFrom l (jobOf (readJob job .words)) room xs) ≡ onJob o (fetchFrom l (jobOf (readJob job .words)) room ys)
+        go (Done k) e =
+            let j = jobOf (readJob job .words) in
+            let q = named-own (readJob job .words) n in
+            let h = read-jobs-allowed job k e .society in
+            let b : spanOf l (j .society) xs ≡ spanOf l (j .society) ys = subst (λ (r : ℕ). spanOf l r xs ≡ spanOf l r ys) (sym q) (a (subst (λ (r : ℕ). r ≤ 7) q h)) in
+            ap {B = Reply} (fetchIn (l .words) (l .count (j .society)) j room) b
+        go (Refuses number place) e = refl
     whole-told (forget t job) n = from-own t (forgetReply (l .words) (l .count t) job) (eqb-true t s n)
     whole-told clear n = refl
 

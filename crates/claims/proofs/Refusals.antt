@@ -4,44 +4,60 @@ use mathlib.Core.Bool.{Bool, true, false, cond}
 use mathlib.Core.List.{List, []}
 use Prim.Native.Nat.{ℕ, _*_}
 use lib.Dec.{eqb, leb}
-use lib.ListN.{length, take, drop, getD}
+use lib.IntN.{natAbs}
+use lib.ListN.{length, drop}
 use borrow.Author.Tests.{eqb-true, eqb-false}
 use borrow.Rule.Slice.PartMut.{putMid, put-same}
+use Rattle.packs.specs.declared.Outcome.{Outcome}
+use Rattle.packs.specs.declared.Outcome.the-variants.{Done, Refused as Unread}
+use Rattle.jobs.specs.Job.{Job}
+use Rattle.jobs.specs.Words.{jobOf}
+use Rattle.jobs.specs.Packs.{readJob}
 use Rattle.measure.specs.declared.check.Verdict.{Verdict}
 use Rattle.measure.specs.declared.check.Verdict.the-variants.{Accepted, Refused as Refuses}
 use Rattle.shelf.specs.declared.Slot.{Slot}
 use Rattle.shelf.specs.declared.Slot.the-variants.{At, Nowhere}
-use Rattle.shelf.specs.Slots.{Reply, refusal, done, joined, lowest, hasJob, atSlot, droppedSlot, keptIn, forgotIn, forgetReply, fetchAt, fetchIn}
+use Rattle.shelf.specs.Slots.{Reply, refusal, done, lowest, hasJob, atSlot, droppedSlot, forgotIn, forgetReply}
+use Rattle.shelf.specs.Fetched.{keptVerdict, handed, sameCounts, fetchTable, keptCells, keptLinks, keptValues, keptMultipliers, fetchAt, fetchIn, onJob}
 use Rattle.shelf.specs.Checked.{Checked, checkedOf, accepted, answerOf}
-use Rattle.shelf.specs.Shelf.{Layout, sizeOf, slotFrom, spanOf, onPart, onSociety, fromSociety, keptShelf, keepReply, fetchReply, forgotShelf, forgotReply}
+use Rattle.shelf.specs.Shelf.{Layout, sizeOf, slotFrom, spanOf, onPart, onSociety, fromSociety, keptOn, keptShelf, keepReply, fetchFrom, fetchReply, forgotShelf, forgotReply}
 use Rattle.shelf.specs.Calls.{Call, keep, fetch, forget, clear, wholeAfter, wholeSaid, after, said}
 use Rattle.shelf.proofs.Lengths.{on-whole, from-whole, on-other, from-other}
 use Rattle.claims.specs.ShelfPromises.{Refused, GivesNothing}
 
 -- ---- a span's calls
-abbrev handedOut : (x : List ℕ) → (roomy : Bool) → Reply
-handedOut x roomy =
-    cond roomy
-    (record { answer = record { number = 0; place = getD x 0 0; loss = joined (getD x 2 0) (getD x 3 0); gap = joined (getD x 4 0) (getD x 5 0) }; values = take (getD x 0 0) (drop 6 x) })
-    (refusal 13 (getD x 0 0))
-
-at-nothing : (room : ℕ) (x : List ℕ) → Refused (fetchAt room x) → GivesNothing (fetchAt room x)
-unfolding fetchAt
-at-nothing room x n = go (leb (getD x 0 0) room) n
+out-nothing : (room : ℕ) (v : List ℕ) (w : Verdict) → Refused (handed room v w) → GivesNothing (handed room v w)
+out-nothing room v (Refuses number place) n = (refl, refl, refl)
+out-nothing room v (Accepted F G) n = go (leb (length v) room) n
   where
-    go : (b : Bool) → Refused (handedOut x b) → GivesNothing (handedOut x b)
+    given : Bool → Reply
+    given b = cond b (record { answer = record { number = 0; place = length v; loss = natAbs F; gap = natAbs G }; values = v }) (refusal 13 (length v))
+
+    go : (b : Bool) → Refused (given b) → GivesNothing (given b)
     go true m = absurd (m refl)
     go false m = (refl, refl, refl)
 
-module _ (w c job : ℕ) (s : List ℕ) where
-  fetch-nothing : (room : ℕ) → Refused (fetchIn w c job room s) → GivesNothing (fetchIn w c job room s)
-  unfolding fetchIn
-  fetch-nothing room n = go (lowest (hasJob job) w c s) n
-    where
-      go : (o : Slot) → Refused (atSlot o (λ p. fetchAt room (drop (w * p) s)) (refusal 12 0)) → GivesNothing (atSlot o (λ p. fetchAt room (drop (w * p) s)) (refusal 12 0))
-      go (At p) m = at-nothing room (drop (w * p) s) m
-      go Nowhere m = (refl, refl, refl)
+table-nothing : (j : Job) (room cells links : ℕ) (v y : List ℕ) → Refused (fetchTable j room cells links v y) → GivesNothing (fetchTable j room cells links v y)
+unfolding fetchTable
+table-nothing j room cells links v y n = go (sameCounts j cells links) n
+  where
+    go : (b : Bool) → Refused (cond b (handed room v (keptVerdict j v y)) (refusal 12 0)) → GivesNothing (cond b (handed room v (keptVerdict j v y)) (refusal 12 0))
+    go true m = out-nothing room v (keptVerdict j v y) m
+    go false m = (refl, refl, refl)
 
+fetch-nothing : (w c : ℕ) (j : Job) (room : ℕ) (s : List ℕ) → Refused (fetchIn w c j room s) → GivesNothing (fetchIn w c j room s)
+unfolding fetchIn fetchAt
+fetch-nothing w c j room s n = go (lowest (hasJob (j .number)) w c s) n
+  where
+    go : (o : Slot) → Refused (atSlot o (λ p. fetchAt j room (drop (w * p) s)) (refusal 12 0)) → GivesNothing (atSlot o (λ p. fetchAt j room (drop (w * p) s)) (refusal 12 0))
+    go (At p) m = let x = drop (w * p) s in table-nothing j room (keptCells x) (keptLinks x) (keptValues x) (keptMultipliers x) m
+    go Nowhere m = (refl, refl, refl)
+
+unread-nothing : (o : Outcome) (r : Reply) → (Refused r → GivesNothing r) → Refused (onJob o r) → GivesNothing (onJob o r)
+unread-nothing (Done k) r h n = h n
+unread-nothing (Unread number place) r h n = (refl, refl, refl)
+
+module _ (w c job : ℕ) (s : List ℕ) where
   forget-nothing : Refused (forgetReply w c job s) → forgotIn w c job s ≡ s
   unfolding forgetReply forgotIn
   forget-nothing n = go (lowest (hasJob job) w c s) n
@@ -77,7 +93,7 @@ module _ (l : Layout) (xs : List ℕ) where
       go false m = refl
 
   abbrev keptBy : Checked → Verdict → List ℕ
-  keptBy o v = cond (accepted v) (onSociety l (o .society) (keptIn (l .words) (l .count (o .society)) (o .job) (slotFrom l o)) xs) xs
+  keptBy o v = cond (accepted v) (keptOn l (o .society) (o .job) (slotFrom l o) xs) xs
 
   abbrev repliedBy : Verdict → Reply
   repliedBy v = record { answer = answerOf v; values = [] }
@@ -93,7 +109,9 @@ module _ (l : Layout) (xs : List ℕ) where
   whole-nothing : (call : Call) → Refused (wholeSaid l xs call) → (wholeAfter l xs call ≡ xs) × GivesNothing (wholeSaid l xs call)
   unfolding fetchReply forgotShelf forgotReply
   whole-nothing (keep job proposal) n = kept-nothing (checkedOf job proposal) n
-  whole-nothing (fetch s job room) n = (refl, from-nothing s (fetchIn (l .words) (l .count s) job room) (λ x m. fetch-nothing (l .words) (l .count s) job x room m) n)
+  whole-nothing (fetch job room) n =
+      let j = jobOf (readJob job .words) in
+      (refl, unread-nothing (readJob job .outcome) (fetchFrom l j room xs) (fetch-nothing (l .words) (l .count (j .society)) j room (spanOf l (j .society) xs)) n)
   whole-nothing (forget s job) n = (
     on-nothing s (forgotIn (l .words) (l .count s) job) (forgetReply (l .words) (l .count s) job) (forget-nothing (l .words) (l .count s) job) n,
     from-nothing s (forgetReply (l .words) (l .count s) job) (λ x m. forget-empty (l .words) (l .count s) job x) n,

@@ -26,7 +26,7 @@ pub record OfEachCall (holds : (A : Type 0) (answer : List ℕ) (before : List A
   pub read : (job : List ℕ) (words : List ℤ) (answer : List ℕ) → holds ℤ answer words (ReadSays job words answer)
   pub write : (words : List ℤ) (out answer : List ℕ) → holds ℕ answer out (WriteSays words out answer)
   pub on-shelf : (call : Call) (shelf answer : List ℕ) → holds ℕ answer shelf (ShelfSays call shelf answer)
-  pub fetch : (shelf : List ℕ) (society job : ℕ) (out answer : List ℕ) → holds ℕ answer out (FetchSays shelf society job out answer)
+  pub fetch : (shelf job out answer : List ℕ) → holds ℕ answer out (FetchSays shelf job out answer)
 
 -- ---- determined
 
@@ -49,14 +49,14 @@ Among (other ∷ others) most number = (number ≡ other) ⊎ Among others most 
 abbrev pub NumberIn : (others : List ℕ) (most : ℕ) {A : Type 0} → Claim A → Type 0
 NumberIn others most {A} claim = (r : ℕ) (a : List ℕ) (x : List A) → claim r a x → Among others most (r % 32)
 
--- Each call gives the numbers that the table of document 01, with 20 of document 02 (W-205), has for it, and no other.
+-- Each call gives the numbers that the table of document 01, with 20 of document 02 (W-205) and W-203's for a fetch, has for it, and no other: a fetch never gives 11.
 pub record Numbered : Type 0 where
   pub check : (job proposal answer : List ℕ) (r : ℕ) (a : List ℕ) → CheckSays job proposal answer r a → Among (13 ∷ []) 9 (r % 32)
   pub propose : (job out answer : List ℕ) → NumberIn (10 ∷ 13 ∷ 20 ∷ []) 5 (ProposeSays job out answer)
   pub read : (job : List ℕ) (words : List ℤ) (answer : List ℕ) → NumberIn (13 ∷ []) 5 (ReadSays job words answer)
   pub write : (words : List ℤ) (out answer : List ℕ) → NumberIn (13 ∷ []) 5 (WriteSays words out answer)
   pub keep : (job proposal shelf answer : List ℕ) → NumberIn (13 ∷ []) 9 (ShelfSays (keep job proposal) shelf answer)
-  pub fetch : (shelf : List ℕ) (society job : ℕ) (out answer : List ℕ) → NumberIn (11 ∷ 12 ∷ 13 ∷ []) 0 (FetchSays shelf society job out answer)
+  pub fetch : (shelf job out answer : List ℕ) → NumberIn (12 ∷ 13 ∷ []) 9 (FetchSays shelf job out answer)
   pub forget : (society job : ℕ) (shelf answer : List ℕ) → NumberIn (11 ∷ 12 ∷ 13 ∷ []) 0 (ShelfSays (forget society job) shelf answer)
   pub clear : (shelf answer : List ℕ) → NumberIn (13 ∷ []) 0 (ShelfSays clear shelf answer)
 
@@ -81,7 +81,7 @@ pub record OfEachOutput (holds : (A : Type 0) (answer : List ℕ) (before : List
   pub propose : (job out answer : List ℕ) → holds ℕ answer out (ProposeSays job out answer)
   pub read : (job : List ℕ) (words : List ℤ) (answer : List ℕ) → holds ℤ answer words (ReadSays job words answer)
   pub write : (words : List ℤ) (out answer : List ℕ) → holds ℕ answer out (WriteSays words out answer)
-  pub fetch : (shelf : List ℕ) (society job : ℕ) (out answer : List ℕ) → holds ℕ answer out (FetchSays shelf society job out answer)
+  pub fetch : (shelf job out answer : List ℕ) → holds ℕ answer out (FetchSays shelf job out answer)
 
 -- "A success leaves output beyond what it writes untouched": beyond the place, which is how much it wrote.
 abbrev pub RestKept : (A : Type 0) (answer : List ℕ) (before : List A) → Claim A → Type 0

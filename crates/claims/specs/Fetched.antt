@@ -1,4 +1,5 @@
--- What stands behind a fetched table: two packs that were sent, and that the check accepted with the F and G that the fetch gives.
+-- What stands behind a fetched table: two packs that were sent and accepted, and that the check accepts that proposal for the job presented, with the
+-- F and G that the fetch gives.
 use Prim.Native.Nat.{ℕ, _<_}
 use mathlib.Core.Path.{_≡_}
 use mathlib.Core.Logic.{_⊎_}
@@ -17,14 +18,15 @@ abbrev pub Sent : Call → List Call → Type 0
 Sent call [] = ⊥
 Sent call (other ∷ calls) = (call ≡ other) ⊎ Sent call calls
 
--- The reply hands out a table that was accepted: its job pack names the society and the number, the check gave its F and G, the values are the
--- proposal's, and no table that meets the job, fractions included, has a loss below F - G.
-pub record WasAccepted (calls : List Call) (society number : ℕ) (r : Reply) : Type 0 where
-  pub job : List ℕ
+-- The reply hands out a table that was kept for the society and under the number of the job presented, and that is accepted for this job: the check of
+-- its proposal against the job presented gives the reply's F and G, the values are the proposal's, and no table that meets the job, fractions
+-- included, has a loss below F - G.
+pub record IsAccepted (calls : List Call) (job : List ℕ) (r : Reply) : Type 0 where
+  pub kept-under : List ℕ
   pub proposal : List ℕ
-  pub sent : Sent (keep job proposal) calls
-  pub its-society : jobIn job .society ≡ society
-  pub its-number : jobIn job .number ≡ number
+  pub sent : Sent (keep kept-under proposal) calls
+  pub its-society : jobIn kept-under .society ≡ jobIn job .society
+  pub its-number : jobIn kept-under .number ≡ jobIn job .number
   pub accepted : checkOf job proposal ≡ Accepted (pos (r .answer .loss)) (pos (r .answer .gap))
   pub count : length (r .values) ≡ jobIn job .cells
   pub values : (i : ℕ) → i < jobIn job .cells → pos (getD (r .values) i 0) ≡ valuesIn job proposal i

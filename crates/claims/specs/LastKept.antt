@@ -18,7 +18,7 @@ isFor society job o = accepted (o .verdict) && (eqb society (o .society) && eqb 
 -- the last such table after a call, where it was `last` before
 abbrev pub lastAfter : (society job : ℕ) → (last : Option Table) → Call → Option Table
 lastAfter society job last (keep j p) = cond (isFor society job (checkedOf j p)) (some (tableFrom (checkedOf j p))) last
-lastAfter society job last (fetch s j room) = last
+lastAfter society job last (fetch j room) = last
 lastAfter society job last (forget s j) = last
 lastAfter society job last clear = last
 

@@ -5,7 +5,11 @@ use mathlib.Core.Bool.{Bool, false, cond, _||_}
 use mathlib.Core.List.{List, [], _∷_, _++_}
 use lib.Dec.{eqb, leb, ltb}
 use lib.ListN.{length}
+use Rattle.jobs.specs.Job.{Job}
+use Rattle.jobs.specs.Words.{jobOf}
+use Rattle.jobs.specs.Packs.{readJob}
 use Rattle.shelf.specs.Slots.{Reply, refusal, done}
+use Rattle.shelf.specs.Fetched.{fetchTable, onJob}
 use Rattle.shelf.specs.Checked.{Checked, checkedOf, accepted, answerOf}
 use Rattle.shelf.specs.Shelf.{keepReply}
 use Rattle.shelf.specs.Calls.{Call, keep, fetch, forget, clear}
@@ -15,10 +19,11 @@ pub record Table : Type 0 where
   pub loss : ℕ
   pub gap : ℕ
   pub values : List ℕ
+  pub multipliers : List ℕ
 
 -- the table of an accepted check
 abbrev pub tableFrom : Checked → Table
-tableFrom o = record { job = o .job; loss = answerOf (o .verdict) .loss; gap = answerOf (o .verdict) .gap; values = o .values }
+tableFrom o = record { job = o .job; loss = answerOf (o .verdict) .loss; gap = answerOf (o .verdict) .gap; values = o .values; multipliers = o .multipliers }
 
 -- ---- a list of tables, oldest first
 abbrev pub isOf : (job : ℕ) → Table → Bool
@@ -47,17 +52,14 @@ youngest (t ∷ ts) = ts
 abbrev pub kept : (c : ℕ) → Table → List Table → List Table
 kept c u ts = cond (holds (u .job) ts) (replaced u ts) (cond (ltb (length ts) c) ts (youngest ts) ++ (u ∷ []))
 
--- what a fetch of that table says, where the output has so much room
-abbrev pub handed : (room : ℕ) → Table → Reply
-handed room t =
-    cond (leb (length (t .values)) room)
-    (record { answer = record { number = 0; place = length (t .values); loss = t .loss; gap = t .gap }; values = t .values })
-    (refusal 13 (length (t .values)))
+-- what a fetch of that table says to the job presented, where the output has so much room: its values and multipliers are checked against that job
+abbrev pub tableFor : Job → (room : ℕ) → Table → Reply
+tableFor j room t = fetchTable j room (length (t .values)) (length (t .multipliers)) (t .values) (t .multipliers)
 
 -- "12: nothing kept under that number"
-abbrev pub fetched : (job room : ℕ) → List Table → Reply
-fetched job room [] = refusal 12 0
-fetched job room (t ∷ ts) = cond (isOf job t) (handed room t) (fetched job room ts)
+abbrev pub fetched : Job → (room : ℕ) → List Table → Reply
+fetched j room [] = refusal 12 0
+fetched j room (t ∷ ts) = cond (isOf (j .number) t) (tableFor j room t) (fetched j room ts)
 
 abbrev pub forgotten : (job : ℕ) → List Table → Reply
 forgotten job ts = cond (holds job ts) done (refusal 12 0)
@@ -70,7 +72,7 @@ Lists = ℕ → List Table
 abbrev pub onList : (society : ℕ) → (f : List Table → List Table) → Lists → Lists
 onList society f lists other = cond (eqb other society) (f (lists other)) (lists other)
 
--- what f says of the society's list; "11: fetch or forget: society above 7"
+-- what f says of the society's list; "11: … forget: society above 7"
 abbrev pub fromList : (society : ℕ) → (f : List Table → Reply) → Lists → Reply
 fromList society f lists = cond (leb society 7) (f (lists society)) (refusal 11 0)
 
@@ -84,13 +86,13 @@ keptLists count o lists = cond (accepted (o .verdict)) (onList (o .society) (kep
 -- the lists after a call, and what they say to it
 abbrev pub listsAfter : (count : ℕ → ℕ) → Lists → Call → Lists
 listsAfter count lists (keep job proposal) = keptLists count (checkedOf job proposal) lists
-listsAfter count lists (fetch society job room) = lists
+listsAfter count lists (fetch job room) = lists
 listsAfter count lists (forget society job) = onList society (removed job) lists
 listsAfter count lists clear = nothing
 
 abbrev pub listsSay : Lists → Call → Reply
 listsSay lists (keep job proposal) = keepReply (checkedOf job proposal)
-listsSay lists (fetch society job room) = fromList society (fetched job room) lists
+listsSay lists (fetch job room) = onJob (readJob job .outcome) (fetched (jobOf (readJob job .words)) room (lists (jobOf (readJob job .words) .society)))
 listsSay lists (forget society job) = fromList society (forgotten job) lists
 listsSay lists clear = done
 

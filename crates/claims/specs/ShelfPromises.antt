@@ -7,13 +7,19 @@ use mathlib.Core.Bool.{true, false}
 use mathlib.Core.Option.{some}
 use mathlib.Core.List.{List, []}
 use lib.ListN.{length}
+use Rattle.jobs.specs.Job.{Job}
+use Rattle.jobs.specs.Packs.{readJob}
+use Rattle.measure.specs.Check.{checkOf}
 use Rattle.shelf.specs.Slots.{Reply, refusal}
+use Rattle.shelf.specs.Checked.{checkedOf, accepted}
+use Rattle.shelf.specs.Fetched.{handed, sameCounts}
 use Rattle.shelf.specs.Shelf.{base, spanOf, cleared}
 use Rattle.shelf.specs.Calls.{Call, fetch, after, said, shelfRun, names}
-use Rattle.claims.specs.Lists.{Table, holds, nothing, listsRun, four}
+use Rattle.claims.specs.Read.{jobIn, Reads}
+use Rattle.claims.specs.Lists.{Table, tableFrom, tableFor, holds, nothing, listsRun, four}
 use Rattle.claims.specs.Heard.{heard, without}
 use Rattle.claims.specs.LastKept.{lastKept, shelfAfter, held, given}
-use Rattle.claims.specs.Fetched.{WasAccepted}
+use Rattle.claims.specs.Fetched.{IsAccepted}
 
 -- ---- eight lists
 
@@ -43,29 +49,50 @@ OtherSpansStay =
 
 -- ---- what a fetch gives
 
--- With room for it, a fetch gives the table last kept for that society and job, if it is among those that the rule still holds.
+-- A fetch with a job pack that reads gives the table last kept for that society and number, if it is among those that the rule still holds: checked
+-- against the job presented.
 abbrev pub LastKeptFetched : Type 0
 LastKeptFetched =
-    (calls : List Call) (society job room : ℕ) → society ≤ 7
-    → (t : Table) → lastKept society job calls ≡ some t → holds job (held four calls society) ≡ true → length (t .values) ≤ room
-    → said base (shelfAfter base (cleared base) calls) (fetch society job room) ≡ given t
+    (calls : List Call) (job : List ℕ) (room : ℕ) → Reads (readJob job .outcome)
+    → (t : Table) → lastKept (jobIn job .society) (jobIn job .number) calls ≡ some t → holds (jobIn job .number) (held four calls (jobIn job .society)) ≡ true
+    → said base (shelfAfter base (cleared base) calls) (fetch job room) ≡ tableFor (jobIn job) room t
+
+-- Where the job presented has as many cells and links as the one under which the table was kept, corrected or not, the answer is that of the check on
+-- the kept proposal and the job presented; a job with other counts is refused with 12.
+abbrev pub FetchedAsChecked : Type 0
+FetchedAsChecked =
+    (old proposal job : List ℕ) (room : ℕ) → accepted (checkOf old proposal) ≡ true → Reads (readJob job .outcome)
+    → jobIn job .cells ≡ jobIn old .cells → jobIn job .links ≡ jobIn old .links
+    → tableFor (jobIn job) room (tableFrom (checkedOf old proposal)) ≡ handed room (checkedOf old proposal .values) (checkOf job proposal)
+
+abbrev pub OtherCountsRefused : Type 0
+OtherCountsRefused =
+    (j : Job) (room : ℕ) (t : Table) → sameCounts j (length (t .values)) (length (t .multipliers)) ≡ false → tableFor j room t ≡ refusal 12 0
+
+-- So a fetch with the job pack under which a table was kept gives it, with that F and G, where there is room.
+abbrev pub SameJobFetched : Type 0
+SameJobFetched =
+    (calls : List Call) (job proposal : List ℕ) (room : ℕ) → accepted (checkOf job proposal) ≡ true
+    → lastKept (jobIn job .society) (jobIn job .number) calls ≡ some (tableFrom (checkedOf job proposal))
+    → holds (jobIn job .number) (held four calls (jobIn job .society)) ≡ true → jobIn job .cells ≤ room
+    → said base (shelfAfter base (cleared base) calls) (fetch job room) ≡ given (tableFrom (checkedOf job proposal))
 
 -- What the rule holds no more, dropped, forgotten or cleared, is refused with 12.
 abbrev pub LostRefused : Type 0
 LostRefused =
-    (calls : List Call) (society job room : ℕ) → society ≤ 7 → holds job (held four calls society) ≡ false
-    → said base (shelfAfter base (cleared base) calls) (fetch society job room) ≡ refusal 12 0
+    (calls : List Call) (job : List ℕ) (room : ℕ) → Reads (readJob job .outcome) → holds (jobIn job .number) (held four calls (jobIn job .society)) ≡ false
+    → said base (shelfAfter base (cleared base) calls) (fetch job room) ≡ refusal 12 0
 
 -- The rule holds at most four.
 abbrev pub FourHeld : Type 0
 FourHeld = (calls : List Call) (society : ℕ) → society ≤ 7 → length (held four calls society) ≤ 4
 
--- A fetched table was accepted: its F and G carry demand 3 for the job that it was kept under.
+-- A fetched table is accepted for the job presented: its F and G carry demand 3 for this job.
 abbrev pub FetchedAccepted : Type 0
 FetchedAccepted =
-    (calls : List Call) (society job room : ℕ)
-    → said base (shelfAfter base (cleared base) calls) (fetch society job room) .answer .number ≡ 0
-    → WasAccepted calls society job (said base (shelfAfter base (cleared base) calls) (fetch society job room))
+    (calls : List Call) (job : List ℕ) (room : ℕ)
+    → said base (shelfAfter base (cleared base) calls) (fetch job room) .answer .number ≡ 0
+    → IsAccepted calls job (said base (shelfAfter base (cleared base) calls) (fetch job room))
 
 -- ---- refusals
 

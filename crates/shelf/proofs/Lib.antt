@@ -12,5 +12,7 @@ pub mod Spans
 pub mod Society
 pub mod Lengths
 pub mod Values
+pub mod Judged
 pub mod Sound
 pub mod Packs
+pub mod Presented

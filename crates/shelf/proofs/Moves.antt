@@ -7,18 +7,21 @@ use native.Mathlib.Omega.{arith}
 use lib.ListN.{length, take, drop, replicate, length-append, length-replicate}
 use lib.Seq.{take-append-add, drop-append-add, drop-at}
 use mathlib.Core.Bool.{Bool, true, false, cond}
-use Rattle.shelf.specs.Slots.{Reply, done, refusal, headSize, headOf, padded, slotOf, putSlot, droppedSlot, lowest, pick, later, hasJob, atSlot, forgotIn, forgetReply, fetchAt, fetchIn}
+use Rattle.jobs.specs.Job.{Job}
+use Rattle.shelf.specs.Slots.{Reply, done, refusal, mostCells, valuesEnd, headOf, padded, slotOf, putSlot, droppedSlot, lowest, pick, later, hasJob, atSlot, forgotIn, forgetReply}
+use Rattle.shelf.specs.Fetched.{fetchAt, fetchIn}
 use Rattle.shelf.specs.declared.Slot.{Slot}
 use Rattle.shelf.specs.declared.Slot.the-variants.{At, Nowhere}
-
-padded-length : (k : ℕ) (v : List ℕ) → length v ≤ k → length (padded k v) ≡ k
-padded-length k v h = length-append v (replicate (k - length v) 0) ∙ ap (λ (n : ℕ). length v + n) (length-replicate (k - length v) 0) ∙ omega arith
+use Rattle.shelf.proofs.Stored.{padded-length}
 
 -- a slot has w words
-pub slot-length : (w job f g : ℕ) (v : List ℕ) → headSize + length v ≤ w → length (slotOf w job f g v) ≡ w
+pub slot-length : (w job f g : ℕ) (v y : List ℕ) → length v ≤ mostCells → valuesEnd + length y ≤ w → length (slotOf w job f g v y) ≡ w
 unfolding slotOf
-slot-length w job f g v h =
-    length-append (headOf (length v) job f g) (padded (w - headSize) v) ∙ ap (λ (k : ℕ). headSize + k) (padded-length (w - headSize) v (omega arith)) ∙ omega arith
+slot-length w job f g v y h k =
+    let a = headOf (length v) job f g (length y) in
+    let p = padded mostCells v in
+    let q = padded (w - valuesEnd) y in
+    omega (arith, length-append a (p ++ q), length-append p q, padded-length mostCells v h, padded-length (w - valuesEnd) y (omega arith))
 
 module _ (w : ℕ) (y rest : List ℕ) (len : length y ≡ w) where
   ahead : (p : ℕ) → w * suc p ≡ length y + w * p
@@ -109,11 +112,11 @@ module _ (w : ℕ) (y rest : List ℕ) (len : length y ≡ w) (c : ℕ) where
         go false (At p) = refl
         go false Nowhere = refl
 
-    pub fetch-step : (room : ℕ) → fetchIn w (suc c) job room (y ++ rest) ≡ cond b (fetchAt room (y ++ rest)) (fetchIn w c job room rest)
-    unfolding fetchIn
-    fetch-step room = by-slot (λ p. fetchAt room (drop (w * p) (y ++ rest))) (refusal 12 0) ∙ go b (lowest (hasJob job) w c rest)
-      where
-        go : (b : Bool) (o : Slot) → atSlot (pick b (At 0) (later o)) (λ p. fetchAt room (drop (w * p) (y ++ rest))) (refusal 12 0) ≡ cond b (fetchAt room (y ++ rest)) (atSlot o (λ p. fetchAt room (drop (w * p) rest)) (refusal 12 0))
-        go true o = ap {B = Reply} (λ (k : ℕ). fetchAt room (drop k (y ++ rest))) (mul-zero w)
-        go false (At p) = ap {B = Reply} (λ (l : List ℕ). fetchAt room l) (drop-next w y rest len p)
-        go false Nowhere = refl
+  pub fetch-step : (j : Job) (b : Bool) → hasJob (j .number) (y ++ rest) ≡ b → (room : ℕ) → fetchIn w (suc c) j room (y ++ rest) ≡ cond b (fetchAt j room (y ++ rest)) (fetchIn w c j room rest)
+  unfolding fetchIn
+  fetch-step j b e room = by-slot (j .number) b e (λ p. fetchAt j room (drop (w * p) (y ++ rest))) (refusal 12 0) ∙ go b (lowest (hasJob (j .number)) w c rest)
+    where
+      go : (b : Bool) (o : Slot) → atSlot (pick b (At 0) (later o)) (λ p. fetchAt j room (drop (w * p) (y ++ rest))) (refusal 12 0) ≡ cond b (fetchAt j room (y ++ rest)) (atSlot o (λ p. fetchAt j room (drop (w * p) rest)) (refusal 12 0))
+      go true o = ap {B = Reply} (λ (k : ℕ). fetchAt j room (drop k (y ++ rest))) (mul-zero w)
+      go false (At p) = ap {B = Reply} (λ (l : List ℕ). fetchAt j room l) (drop-next w y rest len p)
+      go false Nowhere = refl

@@ -9,7 +9,7 @@ use lib.Dec.{leb, eqb}
 use lib.ListN.{drop, getD}
 use lib.Seq.{getD-drop, drop-drop}
 use borrow.Author.Tests.{le-leb, lt-leb}
-use Rattle.shelf.specs.Slots.{isFull, isEmpty, hasJob, lowest, pick, later, orElse, slotFor}
+use Rattle.shelf.specs.Slots.{mostCells, isFull, isEmpty, hasJob, lowest, pick, later, orElse, slotFor}
 use Rattle.shelf.specs.declared.Slot.{Slot}
 use Rattle.shelf.specs.declared.Slot.the-variants.{At, Nowhere}
 use Rattle.shelf.proofs.Sizes.{slot-end}
@@ -23,7 +23,7 @@ module _ (s : List ℕ) (at : ℕ) where
   unfolding isFull
   full-low h = rw (first-word, lt-leb 2 (getD s at 0) h)
 
-  pub full-rest : 2 ≤ getD s at 0 → leb (getD s at 0) 120 ≡ isFull (drop at s)
+  pub full-rest : 2 ≤ getD s at 0 → leb (getD s at 0) mostCells ≡ isFull (drop at s)
   unfolding isFull
   full-rest h = rw (first-word, le-leb 2 (getD s at 0) h)
 

@@ -6,8 +6,8 @@ use Prim.Native.Nat.{ℕ, _+_, _-_, _<_, _≤_}
 use native.Mathlib.Omega.{arith}
 use borrow.Author.Tests.{le-leb, lt-leb}
 use borrow.Rule.Slice.PartMut.{putMid, midOf}
-use Rattle.shelf.specs.Slots.{Reply, refusal, keptIn, forgotIn, forgetReply, fetchIn}
-use Rattle.shelf.specs.Shelf.{Layout, sizeOf, spanOf, onPart, onSociety, fromSociety, keptOn, fetchReply, forgotShelf, forgotReply}
+use Rattle.shelf.specs.Slots.{Reply, refusal, keptIn, forgotIn, forgetReply}
+use Rattle.shelf.specs.Shelf.{Layout, sizeOf, spanOf, onPart, onSociety, fromSociety, keptOn, forgotShelf, forgotReply}
 use Rattle.shelf.specs.declared.Answer.{Answer}
 
 module _ (l : Layout) (s : ℕ) (xs : List ℕ) where
@@ -19,10 +19,6 @@ module _ (l : Layout) (s : ℕ) (xs : List ℕ) where
   pub from-above : (f : List ℕ → Reply) → 7 < s → refusal 11 0 ≡ fromSociety l s f xs
   unfolding fromSociety
   from-above f h = sym (ap {B = Reply} (λ (b : Bool). cond b (f (spanOf l s xs)) (refusal 11 0)) (lt-leb s 7 h))
-
-  pub fetch-above : (job room : ℕ) → 7 < s → refusal 11 0 ≡ fetchReply l s job room xs
-  unfolding fetchReply
-  fetch-above job room h = from-above (fetchIn (l .words) (l .count s) job room) h
 
   pub forget-above : (job : ℕ) (a : Answer) → 7 < s → a ≡ refusal 11 0 .answer → (a ≡ forgotReply l s job xs .answer) × (xs ≡ forgotShelf l s job xs)
   unfolding forgotReply forgotShelf
@@ -47,13 +43,9 @@ module _ (l : Layout) (s : ℕ) (xs : List ℕ) where
     unfolding fromSociety
     from-within f = ap {B = Reply} f lent-span ∙ sym (ap {B = Reply} (λ (b : Bool). cond b (f (spanOf l s xs)) (refusal 11 0)) (le-leb s 7 h))
 
-    -- ---- keep, fetch and forget
+    -- ---- keep and forget
     pub keep-within : (job : ℕ) (x ys : List ℕ) → ys ≡ keptIn (l .words) (l .count s) job x (midOf a (e - a) xs) → putMid a (e - a) xs ys ≡ keptOn l s job x xs
     keep-within job x ys y = on-within (keptIn (l .words) (l .count s) job x) ys y
-
-    pub fetch-within : (job room : ℕ) → fetchIn (l .words) (l .count s) job room (midOf a (e - a) xs) ≡ fetchReply l s job room xs
-    unfolding fetchReply
-    fetch-within job room = from-within (fetchIn (l .words) (l .count s) job room)
 
     pub forget-within : (job : ℕ) (r : Answer) (ys : List ℕ) → r ≡ forgetReply (l .words) (l .count s) job (midOf a (e - a) xs) .answer
         → ys ≡ forgotIn (l .words) (l .count s) job (midOf a (e - a) xs) → (r ≡ forgotReply l s job xs .answer) × (putMid a (e - a) xs ys ≡ forgotShelf l s job xs)

@@ -1,4 +1,4 @@
--- What an accepted check names: a society up to 7, and 2 to 120 values. It accepts only packs that read, and what reads is allowed.
+-- What an accepted check names: a society up to 7, 2 to 120 values, and at most 160 multipliers. It accepts only packs that read, and what reads is allowed.
 use mathlib.Core.Path.{_≡_, refl, sym}
 use mathlib.Core.Bool.{true, true≢false}
 use mathlib.Core.Option.{some}
@@ -6,7 +6,7 @@ use mathlib.Core.List.{List, [], _∷_, map}
 use Prim.Native.Nat.{ℕ, _≤_}
 use native.Mathlib.Omega.{arith}
 use lib.IntN.{ℤ, natAbs}
-use lib.ListN.{length}
+use lib.ListN.{length, drop, length-drop}
 use lib.Seq.{length-take-le}
 use Rattle.packs.specs.declared.Outcome.{Outcome}
 use Rattle.packs.specs.declared.Outcome.the-variants.{Done, Refused as Refuses}
@@ -17,7 +17,8 @@ use Rattle.jobs.specs.Packs.{readJob, readProposal}
 use Rattle.jobs.proofs.Readings.{read-jobs-allowed, read-jobs-laid, read-proposals-proposed}
 use Rattle.measure.specs.declared.check.Verdict.{Verdict}
 use Rattle.measure.specs.Check.{checkOf, onRead, proposalVerdict}
-use Rattle.shelf.specs.Checked.{Checked, valuesOf, checkedOf, accepted}
+use Rattle.shelf.specs.Checked.{Checked, valuesOf, multipliersOf, checkedOf, accepted}
+use Rattle.shelf.specs.Slots.{mostCells, mostLinks}
 use Rattle.shelf.specs.Calls.{firstOf}
 use Rattle.shelf.proofs.Values.{length-map}
 
@@ -55,18 +56,24 @@ module _ (job proposal : List ℕ) where
       let ws = readProposal (j .cells) (j .links) proposal .words in
       length-take-le (j .cells) (map natAbs ws) (omega (arith, length-map natAbs ws, p .proposed .count))
 
--- an accepted check names a society up to 7, and 2 to 120 values
+  pub multipliers-count : Packed job proposal → length (multipliersOf j proposal) ≡ j .links
+  multipliers-count p =
+      let ws = readProposal (j .cells) (j .links) proposal .words in
+      length-take-le (j .links) (drop (j .cells) (map natAbs ws)) (rw length-drop (omega (arith, length-map natAbs ws, p .proposed .count)))
+
+-- an accepted check names a society up to 7, 2 to 120 values, and at most 160 multipliers
 pub record Sound (o : Checked) : Type 0 where
   pub society : o .society ≤ 7
   pub some : 2 ≤ length (o .values)
-  pub few : length (o .values) ≤ 120
+  pub few : length (o .values) ≤ mostCells
+  pub links : length (o .multipliers) ≤ mostLinks
 
 pub accepted-sound : (job proposal : List ℕ) → accepted (checkedOf job proposal .verdict) ≡ true → Sound (checkedOf job proposal)
 unfolding checkedOf
 accepted-sound job proposal e =
     let p = accepted-read job proposal e in
     let n = values-count job proposal p in
-    record { society = p .allowed .society; some = omega (arith, n, p .allowed .cells-some); few = omega (arith, n, p .allowed .cells-few) }
+    record { society = p .allowed .society; some = omega (arith, n, p .allowed .cells-some); few = omega (arith, n, p .allowed .cells-few); links = omega (arith, multipliers-count job proposal p, p .allowed .links-few) }
 
 -- and its pack names that society
 first-named : (words : List ℤ) → 1 ≤ length words → firstOf words ≡ some (jobOf words .society)

@@ -4,15 +4,15 @@ use mathlib.Core.List.{List, [], _∷_, _++_, map}
 use Prim.Native.Nat.{ℕ, zero, suc, _+_, _≤_}
 use native.Mathlib.Omega.{arith}
 use lib.IntN.{ℤ, pos, natAbs}
-use lib.ListN.{length, take, drop, getD, replicate, length-replicate}
-use lib.Seq.{sets, sets-eq, length-sets, getD-drop, take-append-le}
+use lib.ListN.{length, take, drop, getD, replicate, length-replicate, length-drop}
+use lib.Seq.{sets, sets-eq, length-sets, getD-drop, take-append-le, drop-append-le}
 use lib.Dec.{lit<}
 use mir.Syntax.{w64}
 use mir.Val.{toZ, ofZ}
 use Rattle.whole.proofs.Fits.{small-fits, gives}
 use Rattle.jobs.specs.Words.{wordAt}
 use Rattle.jobs.proofs.Places.{zeros-at}
-use Rattle.shelf.specs.Given.{firstValues}
+use Rattle.shelf.specs.Given.{numbersFrom}
 
 -- ---- sizes
 pub length-map : (f : ℤ → ℕ) (xs : List ℤ) → length (map f xs) ≡ length xs
@@ -24,13 +24,17 @@ map-at [] i = refl
 map-at (x ∷ xs) zero = refl
 map-at (x ∷ xs) (suc i) = map-at xs i
 
-map-append : (f : ℤ → ℕ) (xs ys : List ℤ) → map f (xs ++ ys) ≡ map f xs ++ map f ys
+pub map-append : {A B : Type 0} (f : A → B) (xs ys : List A) → map f (xs ++ ys) ≡ map f xs ++ map f ys
 map-append f [] ys = refl
-map-append f (x ∷ xs) ys = ap (λ (l : List ℕ). f x ∷ l) (map-append f xs ys)
+map-append {A} {B} f (x ∷ xs) ys = ap (λ (l : List B). f x ∷ l) (map-append f xs ys)
 
--- the first n of a list of at least n are the first n of any list that it begins
-pub first-append : (n : ℕ) (xs ys : List ℤ) → n ≤ length xs → firstValues n (xs ++ ys) ≡ firstValues n xs
-first-append n xs ys h = ap (take n) (map-append natAbs xs ys) ∙ take-append-le n (map natAbs xs) (map natAbs ys) (omega (arith, length-map natAbs xs))
+-- n numbers of a list that has them are those of any list that it begins
+pub numbers-append : (a n : ℕ) (xs ys : List ℤ) → a + n ≤ length xs → numbersFrom a n (xs ++ ys) ≡ numbersFrom a n xs
+numbers-append a n xs ys h =
+    let l = length-map natAbs xs in
+    ap (λ (m : List ℕ). take n (drop a m)) (map-append natAbs xs ys)
+    ∙ ap (take n) (drop-append-le a (map natAbs xs) (map natAbs ys) (omega arith))
+    ∙ take-append-le n (drop a (map natAbs xs)) (map natAbs ys) (rw length-drop (omega arith))
 
 -- a small number in a signed local is that number
 pub word-read : (z : ℤ) → natAbs z ≤ 4294967295 → natAbs (toZ w64 (ofZ w64 z)) ≡ natAbs z
@@ -61,5 +65,5 @@ module _ (m : ℕ) (ws : List ℤ) (room : length ws ≤ m) (scratch : List ℤ)
       ap (λ (l : List ℤ). wordAt l i) in-front
       ∙ past-end ws (drop (0 + length ws) (replicate m (pos 0))) (λ k. getD-drop (0 + length ws) (replicate m (pos 0)) k (pos 0) ∙ zeros-at m (0 + length ws + k)) i
 
-  pub same-values : (n : ℕ) → n ≤ length ws → firstValues n scratch ≡ firstValues n ws
-  same-values n h = ap (firstValues n) in-front ∙ first-append n ws (drop (0 + length ws) (replicate m (pos 0))) h
+  pub same-numbers : (a n : ℕ) → a + n ≤ length ws → numbersFrom a n scratch ≡ numbersFrom a n ws
+  same-numbers a n h = ap (numbersFrom a n) in-front ∙ numbers-append a n ws (drop (0 + length ws) (replicate m (pos 0))) h

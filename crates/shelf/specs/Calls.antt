@@ -13,20 +13,20 @@ use Rattle.shelf.specs.Shelf.{Layout, onWhole, fromWhole, keptShelf, kee
 
 pub data Call : Type 0 where
   keep : (job proposal : List ℕ) → Call
-  fetch : (society job room : ℕ) → Call
+  fetch : (job : List ℕ) (room : ℕ) → Call
   forget : (society job : ℕ) → Call
   clear : Call
 
 -- ---- a call on a shelf that has all its words
 abbrev pub wholeAfter : Layout → (shelf : List ℕ) → Call → List ℕ
 wholeAfter l shelf (keep job proposal) = keptShelf l (checkedOf job proposal) shelf
-wholeAfter l shelf (fetch society job room) = shelf
+wholeAfter l shelf (fetch job room) = shelf
 wholeAfter l shelf (forget society job) = forgotShelf l society job shelf
 wholeAfter l shelf clear = cleared l
 
 abbrev pub wholeSaid : Layout → (shelf : List ℕ) → Call → Reply
 wholeSaid l shelf (keep job proposal) = keepReply (checkedOf job proposal)
-wholeSaid l shelf (fetch society job room) = fetchReply l society job room shelf
+wholeSaid l shelf (fetch job room) = fetchReply l job room shelf
 wholeSaid l shelf (forget society job) = forgotReply l society job shelf
 wholeSaid l shelf clear = done
 
@@ -50,7 +50,7 @@ firstOf (word ∷ words) = some (natAbs word)
 
 abbrev pub named : Call → Option ℕ
 named (keep job proposal) = firstOf (readJob job .words)
-named (fetch society job room) = some society
+named (fetch job room) = firstOf (readJob job .words)
 named (forget society job) = some society
 named clear = none
 

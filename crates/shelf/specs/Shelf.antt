@@ -1,11 +1,15 @@
--- The whole shelf (document 01, "The shelf"): eight spans, and each call on the span of its own society.
+-- The whole shelf (document 01, "The shelf", with W-203's slots): eight spans, and each call on the span of its own society.
 use Prim.Native.Nat.{ℕ, _*_}
 use mathlib.Core.Bool.{cond}
 use mathlib.Core.List.{List, [], _++_}
 use lib.Dec.{eqb, leb}
 use lib.ListN.{length, take, drop, replicate}
-use Rattle.shelf.specs.Slots.{Reply, refusal, slotOf, keptIn, forgotIn, forgetReply, fetchIn}
+use Rattle.shelf.specs.Slots.{Reply, refusal, slotOf, keptIn, forgotIn, forgetReply}
+use Rattle.jobs.specs.Job.{Job}
+use Rattle.jobs.specs.Words.{jobOf}
+use Rattle.jobs.specs.Packs.{readJob}
 use Rattle.shelf.specs.Checked.{Checked, accepted, answerOf}
+use Rattle.shelf.specs.Fetched.{fetchIn, onJob}
 
 -- ---- the layout of a shelf
 pub record Layout : Type 0 where
@@ -20,9 +24,9 @@ pub record Layout : Type 0 where
 abbrev pub sizeOf : Layout → (society : ℕ) → ℕ
 sizeOf l society = l .words * l .count society
 
--- "4,032 lent 32-bit words: 8 societies of 504, each 4 places of 126."
+-- "8 societies …, each 4 places"; W-203: "A place becomes 287 words …; the shelf is 9,184 words"
 abbrev pub base : Layout
-base = record { words = 126; count = λ society. 4; start = λ society. 504 * society; total = 4032 }
+base = record { words = 287; count = λ society. 4; start = λ society. 1148 * society; total = 9184 }
 
 -- the words of a slot and of a shelf, as the code has them
 abbrev pub slotWords : ℕ
@@ -44,11 +48,11 @@ spanOf l society shelf = take (sizeOf l society) (drop (l .start society) shelf)
 unfoldable pub onSociety : Layout → (society : ℕ) → (f : List ℕ → List ℕ) → List ℕ → List ℕ
 onSociety l society f shelf = cond (leb society 7) (onPart (l .start society) (sizeOf l society) f shelf) shelf
 
--- what f says of the society's words; "11: fetch or forget: society above 7"
+-- what f says of the society's words; "11: … forget: society above 7"
 unfoldable pub fromSociety : Layout → (society : ℕ) → (f : List ℕ → Reply) → List ℕ → Reply
 fromSociety l society f shelf = cond (leb society 7) (f (spanOf l society shelf)) (refusal 11 0)
 
--- f done to a shelf that has all its words, and what f says of one; "13: shelf not 4,032"
+-- f done to a shelf that has all its words, and what f says of one; "13 names that number"
 unfoldable pub onWhole : Layout → (f : List ℕ → List ℕ) → List ℕ → List ℕ
 onWhole l f shelf = cond (eqb (length shelf) (l .total)) (f shelf) shelf
 
@@ -58,7 +62,7 @@ fromWhole l f shelf = cond (eqb (length shelf) (l .total)) (f shelf) (refusal 13
 -- ---- the calls, on a shelf that has all its words
 -- the table of an accepted check as a slot
 abbrev pub slotFrom : Layout → Checked → List ℕ
-slotFrom l o = slotOf (l .words) (o .job) (answerOf (o .verdict) .loss) (answerOf (o .verdict) .gap) (o .values)
+slotFrom l o = slotOf (l .words) (o .job) (answerOf (o .verdict) .loss) (answerOf (o .verdict) .gap) (o .values) (o .multipliers)
 
 -- the slot x kept for a society under a job number
 abbrev pub keptOn : Layout → (society job : ℕ) → (x : List ℕ) → List ℕ → List ℕ
@@ -70,8 +74,12 @@ keptShelf l o shelf = cond (accepted (o .verdict)) (keptOn l (o .society) (o .jo
 unfoldable pub keepReply : Checked → Reply
 keepReply o = record { answer = answerOf (o .verdict); values = [] }
 
-unfoldable pub fetchReply : Layout → (society job room : ℕ) → List ℕ → Reply
-fetchReply l society job room shelf = fromSociety l society (fetchIn (l .words) (l .count society) job room) shelf
+-- "Fetch now takes the whole job pack": a pack that reads names a society up to 7
+abbrev pub fetchFrom : Layout → Job → (room : ℕ) → List ℕ → Reply
+fetchFrom l j room shelf = fetchIn (l .words) (l .count (j .society)) j room (spanOf l (j .society) shelf)
+
+unfoldable pub fetchReply : Layout → (job : List ℕ) (room : ℕ) → List ℕ → Reply
+fetchReply l job room shelf = onJob (readJob job .outcome) (fetchFrom l (jobOf (readJob job .words)) room shelf)
 
 unfoldable pub forgotShelf : Layout → (society job : ℕ) → List ℕ → List ℕ
 forgotShelf l society job shelf = onSociety l society (forgotIn (l .words) (l .count society) job) shelf

@@ -4,15 +4,16 @@ ghost use mathlib.Core.List.{_++_};
 ghost use Prim.Native.Nat.{_≤_, _<_};
 ghost use lib.IntN.{natAbs};
 ghost use lib.ListN.{length, drop};
-ghost use Rattle.jobs.specs.Words.{countAt, cellsOf};
+ghost use Rattle.jobs.specs.Words.{countAt};
 ghost use Rattle.shelf.specs.Checked.{checkedOf};
 ghost use Rattle.shelf.specs.Shelf.{base, shelfWords, keptShelf, keepReply};
-ghost use Rattle.shelf.specs.Given.{JobWords, Rates, Given, firstValues, keptFrom};
+ghost use Rattle.shelf.specs.Given.{JobWords, Wordlike, Rated, Given, numbersFrom, keptFrom, tableKept};
 use crate::Answer;
 use crate::societies::keep_society;
 use crate::span::plain;
 use jobs::job::JOB_WORDS;
 use jobs::proposal::PROPOSAL_WORDS;
+use jobs::words::links_at;
 use measure::check::Verdict;
 use measure::check::check_into;
 use numbers::zigzag::size_of;
@@ -25,26 +26,29 @@ pub fn count_at(words: &[i64], at: usize) -> u64
     size_of(words[at])
 }
 
-// The first n rates, as words of a slot.
-fn copy_rates(rates: &[i64], n: usize, values: &mut [u32])
-    requires { ⌜ Rates n (now rates) × (n ≤ length (now values)) ⌝ }
-    ensures { λ _. ⌜ now (values .exit) ≡ firstValues n (now (rates .entry)) ++ drop n (now (values .entry)) ⌝ }
+// n numbers from the number a on, as words of a slot.
+fn copy_rates(rates: &[i64], a: usize, n: usize, values: &mut [u32])
+    requires { ⌜ Wordlike a n (now rates) × (n ≤ length (now values)) ⌝ }
+    ensures { λ _. ⌜ now (values .exit) ≡ numbersFrom a n (now (rates .entry)) ++ drop n (now (values .entry)) ⌝ }
 {
     let mut i: usize = 0;
     while i < n {
-        let rate = count_at(rates, i);
+        let at = a + i;
+        let rate = count_at(rates, at);
         values[i] = rate as u32;
         i += 1;
     }
 }
 
-// Keep the first n rates under the society and the number of a job's words.
-fn keep_rates(shelf: &mut [u32], words: &[i64], rates: &[i64], n: usize, loss: u64, gap: u64)
-    requires { ⌜ (length (now shelf) ≡ shelfWords) × JobWords (now words) × Rates n (now rates) ⌝ }
-    ensures { λ _. ⌜ now (shelf .exit) ≡ keptFrom (now (words .entry)) loss gap (firstValues n (now (rates .entry))) (now (shelf .entry)) ⌝ }
+// Keep the first n rates with the multipliers after them, under the society and the number of a job's words.
+fn keep_rates(shelf: &mut [u32], words: &[i64], rates: &[i64], n: usize, links: usize, loss: u64, gap: u64)
+    requires { ⌜ (length (now shelf) ≡ shelfWords) × JobWords (now words) × Rated n links (now rates) ⌝ }
+    ensures { λ _. ⌜ now (shelf .exit) ≡ keptFrom (now (words .entry)) loss gap (numbersFrom 0 n (now (rates .entry))) (numbersFrom n links (now (rates .entry))) (now (shelf .entry)) ⌝ }
 {
     let mut values = [0u32; 120];
-    copy_rates(rates, n, &mut values);
+    copy_rates(rates, 0, n, &mut values);
+    let mut multipliers = [0u32; 160];
+    copy_rates(rates, n, links, &mut multipliers);
     let society = count_at(words, 0);
     let number = count_at(words, 1);
     keep_society(
@@ -54,6 +58,7 @@ fn keep_rates(shelf: &mut [u32], words: &[i64], rates: &[i64], n: usize, loss: u
         loss,
         gap,
         &values[0..n],
+        &multipliers[0..links],
     );
 }
 
@@ -61,12 +66,14 @@ fn keep_rates(shelf: &mut [u32], words: &[i64], rates: &[i64], n: usize, loss: u
 fn keep_table(shelf: &mut [u32], words: &[i64], rates: &[i64], loss: i64, gap: i64) -> Answer
     requires { ⌜ (length (now shelf) ≡ shelfWords) × Given (now words) (now rates) ⌝ }
     ensures answer { λ r. ⌜ r ≡ record { number = 0; place = 0; loss = natAbs loss; gap = natAbs gap } ⌝ }
-    ensures shelf { λ _. ⌜ now (shelf .exit) ≡ keptFrom (now (words .entry)) (natAbs loss) (natAbs gap) (firstValues (cellsOf (now (words .entry))) (now (rates .entry))) (now (shelf .entry)) ⌝ }
+    ensures shelf { λ _. ⌜ now (shelf .exit) ≡ tableKept (now (words .entry)) (natAbs loss) (natAbs gap) (now (rates .entry)) (now (shelf .entry)) ⌝ }
 {
     let f = size_of(loss);
     let g = size_of(gap);
-    let n = count_at(words, 2);
-    keep_rates(shelf, words, rates, n as usize, f, g);
+    let n = count_at(words, 2) as usize;
+    let at = links_at(words, n);
+    let links = count_at(words, at) as usize;
+    keep_rates(shelf, words, rates, n, links, f, g);
     Answer {
         number: 0,
         place: 0,

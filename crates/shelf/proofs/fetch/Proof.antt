@@ -1,4 +1,4 @@
--- A shelf of another length is refused first; one that has all its words goes to the society's own fetch.
+-- A shelf of another length is refused first; one that has all its words goes to the job pack's own fetch.
 use mathlib.Core.Path.{refl}
 use lib.ListN.{length}
 use Rattle.shelf.specs.Slots.{refusal}
@@ -15,26 +15,32 @@ plain-requires c κs = search needs
 
 returns : tie.Need-returns
 returns c =
-    let a = c .before .before .before .before .args in
+    let a = c .before .before .before .before .before .args in
     let o = a .out .now in
-    let call = fetch (a .society) (a .job) (length o) in
+    let call = fetch (a .job .now) (length o) in
     replied (refusal 13 shelfWords) (said base (a .shelf .now) call) (c .plain .result) o o (from-other base (a .shelf .now) (c .before .if1 .taken) (λ s. wholeSaid base s call)) (c .plain .ensures) refl
 
-fetch-society-requires : tie.Need-fetch-society-requires
-fetch-society-requires c κs = search needs
+fetch-pack-requires : tie.Need-fetch-pack-requires
+fetch-pack-requires c κs = search needs
 
 same-length : tie.Need-same-length
 same-length c = search needs
 
 returns-2 : tie.Need-returns-2
 returns-2 c =
-    let got = c .before .before in
-    let test = got .before .before in
-    let a = test .before .before .before .args in
+    let got = c .before .before .fetch-pack in
+    let a = c .before .before .before .before .before .before .before .before .args in
     let o = a .out .now in
-    let call = fetch (a .society) (a .job) (length o) in
-    replied (fetchReply base (a .society) (a .job) (length o) (a .shelf .now)) (said base (a .shelf .now) call) (got .fetch-society .result) o (got .fetch-society .last .1 .1 .1 .0)
-    (from-whole base (a .shelf .now) (test .if1 .left) (λ s. wholeSaid base s call)) (got .fetch-society .ensures .0) (got .fetch-society .ensures .1)
+    let call = fetch (a .job .now) (length o) in
+    replied (fetchReply base (a .job .now) (length o) (a .shelf .now)) (said base (a .shelf .now) call) (got .result) o (got .last .1 .1 .0)
+    (from-whole base (a .shelf .now) (c .before .before .before .before .if1 .left) (λ s. wholeSaid base s call)) (got .ensures .0) (got .ensures .1)
 
 pub fetch-spec : {M : Type 1} → statement M
-fetch-spec = tie.close (tie.spec plain-requires returns fetch-society-requires same-length returns-2)
+fetch-spec =
+    tie.close
+    (tie.spec
+    plain-requires
+    returns
+    fetch-pack-requires
+    same-length
+    returns-2)

@@ -11,8 +11,8 @@ use Rattle.bench.proofs.keeping.bench_fetch.Tie as tie
 
 returns : tie.Need-returns
 returns c =
-    let a = c .before .before .before .before .args in
-    let call = fetch (a .society) (a .job) (length (a .out .now)) in
+    let a = c .before .before .before .before .before .args in
+    let call = fetch (a .job .now) (length (a .out .now)) in
     without-room (said base (a .shelf .now) call .answer) (a .answer .now) (a .out .now) (overwritten (a .out .now) (said base (a .shelf .now) call .values)) (c .if1 .taken)
 
 fetch-requires : tie.Need-fetch-requires
@@ -32,8 +32,8 @@ returns-2 c =
     let given = c .before .before in
     let made = given .before .before .before .before in
     let test = made .before .before in
-    let a = test .before .before .before .before .args in
-    let call = fetch (a .society) (a .job) (length (a .out .now)) in
+    let a = test .before .before .before .before .before .args in
+    let call = fetch (a .job .now) (length (a .out .now)) in
     with-room (said base (a .shelf .now) call .answer) (a .answer .now) (a .out .now) (overwritten (a .out .now) (said base (a .shelf .now) call .values)) (said-small (a .shelf .now) call) (test .if1 .left) (made .fetch .result)
     (made .fetch .ensures .0) (given .give .ensures .0) (given .give .ensures .1) (made .fetch .ensures .1)
 

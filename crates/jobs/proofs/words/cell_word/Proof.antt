@@ -6,13 +6,13 @@ use mir.Syntax.{w64}
 use mir.Val.{toZ, ofZ}
 use Rattle.jobs.specs.Words.{wordAt}
 use Rattle.jobs.proofs.Places.{head-few, cells-inside}
-use Rattle.jobs.proofs.Counts.{cell-read}
+use Rattle.jobs.proofs.Counts.{order-counts, cell-read}
 use borrow.Author.Needs.{needs}
 use Rattle.jobs.proofs.words.cell_word.Statement.{statement}
 use Rattle.jobs.proofs.words.cell_word.Tie as tie
 
 head-of-requires : tie.Need-head-of-requires
-head-of-requires c κs = search needs
+head-of-requires c κs = order-counts (c .pre .0) (c .pre .1 .0)
 
 add-at : tie.Need-add-at
 add-at c = omega (arith, c .head-of .ensures, head-few (c .before .args .words .now))

@@ -1,13 +1,12 @@
 -- A grid's own word, or one.
 use mathlib.Core.Path.{sym, _∙_}
-use Rattle.jobs.proofs.Counts.{columns-counts}
+use Rattle.jobs.proofs.Counts.{order-counts, columns-counts}
 use Rattle.jobs.proofs.Shapes.{columns-grid, columns-line}
-use borrow.Author.Needs.{needs}
 use Rattle.jobs.proofs.words.columns_of.Statement.{statement}
 use Rattle.jobs.proofs.words.columns_of.Tie as tie
 
 is-grid-requires : tie.Need-is-grid-requires
-is-grid-requires c κs = search needs
+is-grid-requires c κs = order-counts (c .pre .0) (c .pre .1)
 
 count-at-requires : tie.Need-count-at-requires
 count-at-requires c κs = columns-counts (c .before .before .pre .0) (c .before .before .pre .1) (sym (c .before .is-grid .ensures) ∙ c .if1 .taken)

@@ -7,13 +7,12 @@ use mir.Syntax.{w64}
 use mir.Val.{toZ, ofZ}
 use Rattle.jobs.specs.Words.{wordAt}
 use Rattle.jobs.proofs.Places.{head-some, head-few, cells-inside}
-use Rattle.jobs.proofs.Counts.{constant-read}
-use borrow.Author.Needs.{needs}
+use Rattle.jobs.proofs.Counts.{order-counts, constant-read}
 use Rattle.jobs.proofs.words.constant_of.Statement.{statement}
 use Rattle.jobs.proofs.words.constant_of.Tie as tie
 
 head-of-requires : tie.Need-head-of-requires
-head-of-requires c κs = search needs
+head-of-requires c κs = order-counts (c .pre .0) (c .pre .1)
 
 sub-at : tie.Need-sub-at
 sub-at c = omega (arith, c .head-of .ensures, head-some (c .before .args .words .now))

@@ -2,12 +2,12 @@
 use mathlib.Core.Path.{ap}
 use Prim.Native.Nat.{ℕ}
 use lib.Dec.{eqb}
-use Rattle.jobs.proofs.Counts.{order-counts}
+use borrow.Author.Needs.{needs}
 use Rattle.jobs.proofs.words.is_grid.Statement.{statement}
 use Rattle.jobs.proofs.words.is_grid.Tie as tie
 
 count-at-requires : tie.Need-count-at-requires
-count-at-requires c κs = order-counts (c .pre .0) (c .pre .1)
+count-at-requires c κs = search needs
 
 returns : tie.Need-returns
 returns c = ap (λ (x : ℕ). eqb x 5) (c .count-at .ensures)

@@ -12,7 +12,7 @@ mul-result : tie.Need-mul-result
 mul-result c = search needs
 
 add-result : tie.Need-add-result
-add-result c = omega (arith, c .head-of .ensures, head-few (c .before .args .words .now), c .before .pre .0 .cells-few, c .before .pre .1 .1)
+add-result c = omega (arith, c .head-of .ensures, head-few (c .before .args .words .now), c .before .pre .1)
 
 returns : tie.Need-returns
 returns c = search needs

@@ -8,7 +8,7 @@ use Rattle.jobs.proofs.words.order_of.Statement.{statement}
 use Rattle.jobs.proofs.words.order_of.Tie as tie
 
 is-grid-requires : tie.Need-is-grid-requires
-is-grid-requires c κs = search needs
+is-grid-requires c κs = order-counts (c .pre .0) (c .pre .1)
 
 count-at-requires : tie.Need-count-at-requires
 count-at-requires c κs = down-counts (c .before .before .pre .0) (c .before .before .pre .1) (sym (c .before .is-grid .ensures) ∙ c .if1 .taken)

@@ -2,14 +2,13 @@
 use mathlib.Core.Path.{sym, _∙_}
 use native.Mathlib.Omega.{arith}
 use Rattle.jobs.proofs.Places.{head-of-grid, cells-inside}
-use Rattle.jobs.proofs.Counts.{second-read}
+use Rattle.jobs.proofs.Counts.{order-counts, second-read}
 use Rattle.jobs.proofs.Shapes.{second-grid, second-line}
-use borrow.Author.Needs.{needs}
 use Rattle.jobs.proofs.words.second_of.Statement.{statement}
 use Rattle.jobs.proofs.words.second_of.Tie as tie
 
 is-grid-requires : tie.Need-is-grid-requires
-is-grid-requires c κs = search needs
+is-grid-requires c κs = order-counts (c .pre .0) (c .pre .1)
 
 shared-slice-copy-out-result : tie.Need-shared-slice-copy-out-result
 shared-slice-copy-out-result c = omega (arith, head-of-grid (c .before .before .args .words .now) (sym (c .before .is-grid .ensures) ∙ c .if1 .taken), cells-inside (c .before .before .pre .1))

@@ -3,11 +3,10 @@ use mathlib.Core.Path.{sym, ap₂, _∙_}
 use lib.IntN.{ℤ, natAbs}
 use mir.Facts.{toZ-ofZ}
 use mir.Syntax.{w64}
-use Rattle.jobs.specs.Words.{cellsOf}
 use Rattle.jobs.specs.Packs.{readJob}
 use Rattle.measure.specs.Check.{proposalWords}
 use Rattle.shelf.specs.declared.Answer.{Answer}
-use Rattle.shelf.specs.Given.{firstValues, keptFrom}
+use Rattle.shelf.specs.Given.{tableKept}
 use Rattle.shelf.proofs.Values.{lent-length}
 use Rattle.shelf.proofs.Packs.{given-packs, kept-packs, refused-packs}
 use borrow.Author.Needs.{needs}
@@ -56,7 +55,7 @@ returns c = let kept = c .before .before in
     kept-packs (a .job .now) (a .proposal .now) F G (sym (check .check-into .ensures .0) ∙ told .1) words (check .check-into .ensures .1) rates (check .check-into .ensures .2)
     (kept .keep-table .result) (kept .keep-table .ensures .0 ∙ ap₂ {C = Answer} (λ (x y : ℤ). record { number = 0; place = 0; loss = natAbs x; gap = natAbs y }) f g)
     (a .shelf .now) (kept .keep-table .last .0)
-    (kept .keep-table .ensures .1 ∙ ap₂ (λ (x y : ℤ). keptFrom words (natAbs x) (natAbs y) (firstValues (cellsOf words) rates) (a .shelf .now)) f g)
+    (kept .keep-table .ensures .1 ∙ ap₂ (λ (x y : ℤ). tableKept words (natAbs x) (natAbs y) rates (a .shelf .now)) f g)
 
 returns-2 : tie.Need-returns-2
 returns-2 c = let told = c .before .before .verdict2 .given in

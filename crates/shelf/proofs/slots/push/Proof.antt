@@ -32,11 +32,11 @@ same-length c = search needs
 
 returns : tie.Need-returns
 returns c =
-    let put = c .before .before in
-    let shift = put .before .before .before .before in
-    let start = shift .before .before .before .before in
+    let put = c .before .before .put-table in
+    let shift = c .before .before .before .before .before .before .shift-down in
+    let start = c .before .before .before .before .before .before .before .before .before .before .before in
     let a = start .args in
-    push-is slotWords (a .span .now) (start .pre .0) (slotOf slotWords (a .job) (a .loss) (a .gap) (a .values .now)) (shift .shift-down .last .0) (shift .shift-down .ensures) (put .put-table .last .0) (put .put-table .ensures)
+    push-is slotWords (a .span .now) (start .pre .0) (slotOf slotWords (a .job) (a .loss) (a .gap) (a .values .now) (a .multipliers .now)) (shift .last .0) (shift .ensures) (put .last .0) (put .ensures)
 
 pub push-spec : {M : Type 1} → statement M
 push-spec =

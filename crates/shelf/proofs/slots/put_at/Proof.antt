@@ -32,9 +32,9 @@ same-length c = search needs
 
 returns : tie.Need-returns
 returns c =
-    let put = c .before .before in
-    let a = put .before .before .before .before .args in
-    put-is slotWords (a .p) (a .span .now) (slotOf slotWords (a .job) (a .loss) (a .gap) (a .values .now)) (put .put-table .last .0) (put .put-table .ensures)
+    let put = c .before .before .put-table in
+    let a = c .before .before .before .before .before .before .before .args in
+    put-is slotWords (a .p) (a .span .now) (slotOf slotWords (a .job) (a .loss) (a .gap) (a .values .now) (a .multipliers .now)) (put .last .0) (put .ensures)
 
 pub put-at-spec : {M : Type 1} → statement M
 put-at-spec =

@@ -1,5 +1,4 @@
 -- Each word of the head is stored.
-use mathlib.Core.Path.{refl}
 use native.Mathlib.Omega.{arith}
 use lib.ListN.{length-set}
 use Rattle.shelf.specs.Slots.{headOf}
@@ -38,6 +37,9 @@ cast-head-4 c = search needs
 slice-write-head-6 : tie.Need-slice-write-head-6
 slice-write-head-6 c = simp length-set (omega arith)
 
+slice-write-head-7 : tie.Need-slice-write-head-7
+slice-write-head-7 c = simp length-set (omega arith)
+
 same-length : tie.Need-same-length
 same-length c = search needs
 
@@ -45,7 +47,7 @@ returns : tie.Need-returns
 returns c =
     let start = c in
     let a = start .args in
-    stored-all (a .head .now) (headOf (a .n) (a .job) (a .loss) (a .gap)) (start .pre)
+    stored-all (a .head .now) (headOf (a .n) (a .job) (a .loss) (a .gap) (a .links)) (start .pre)
 
 pub put-head-spec : {M : Type 1} → statement M
 put-head-spec =
@@ -61,5 +63,6 @@ put-head-spec =
     slice-write-head-5
     cast-head-4
     slice-write-head-6
+    slice-write-head-7
     same-length
     returns)

@@ -1,10 +1,7 @@
--- The head, then the values.
-use mathlib.Core.Path.{refl}
+-- The head, then the values, then the multipliers.
 use native.Mathlib.Omega.{arith}
-use borrow.Rule.Slice.PartMut.{putMid}
 use Rattle.shelf.specs.Shelf.{slotWords}
-use Rattle.shelf.specs.Slots.{headSize}
-use Rattle.shelf.proofs.Stored.{slot-is}
+use Rattle.shelf.proofs.Stored.{table-is}
 use borrow.Author.Needs.{needs}
 use Rattle.shelf.proofs.slots.put_table.Statement.{statement}
 use Rattle.shelf.proofs.slots.put_table.Tie as tie
@@ -21,6 +18,9 @@ part-put-head-end c = search needs
 cast-put-head : tie.Need-cast-put-head
 cast-put-head c = search needs
 
+cast-put-head-2 : tie.Need-cast-put-head-2
+cast-put-head-2 c = search needs
+
 put-head-requires : tie.Need-put-head-requires
 put-head-requires c κs = search needs
 
@@ -36,17 +36,30 @@ part-put-padded-end c = search needs
 put-padded-requires : tie.Need-put-padded-requires
 put-padded-requires c κs = search needs
 
+sub-put-padded-2 : tie.Need-sub-put-padded-2
+sub-put-padded-2 c = search needs
+
+part-put-padded-start-2 : tie.Need-part-put-padded-start-2
+part-put-padded-start-2 c = search needs
+
+part-put-padded-end-2 : tie.Need-part-put-padded-end-2
+part-put-padded-end-2 c = search needs
+
+put-padded-requires-2 : tie.Need-put-padded-requires-2
+put-padded-requires-2 c κs = search needs
+
 same-length : tie.Need-same-length
 same-length c = search needs
 
 returns : tie.Need-returns
 returns c =
-    let put = c .before .before in
-    let head = c .before .before .before .before .before .before in
-    let start = c .before .before .before .before .before .before .before .before .before .before in
+    let head = c .before .before .before .before .before .before .before .before .before .before .put-head in
+    let values = c .before .before .before .before .before .before .put-padded in
+    let multipliers = c .before .before .put-padded2 in
+    let start = c .before .before .before .before .before .before .before .before .before .before .before .before .before .before .before in
     let a = start .args in
-    let l = a .slot .now in
-    slot-is slotWords l (start .pre .0) (omega arith) (a .job) (a .loss) (a .gap) (a .values .now) (putMid 0 headSize l (head .put-head .last .0)) (head .put-head .last .0) (head .put-head .ensures) refl (put .put-padded .last .0) (put .put-padded .ensures)
+    table-is slotWords (a .slot .now) (start .pre .0) (omega arith) (a .job) (a .loss) (a .gap) (a .values .now) (a .multipliers .now) (start .pre .1)
+    (head .last .0) (head .ensures) (values .last .0) (values .ensures) (multipliers .last .0) (multipliers .ensures)
 
 pub put-table-spec : {M : Type 1} → statement M
 put-table-spec =
@@ -56,10 +69,15 @@ put-table-spec =
     part-put-head-start
     part-put-head-end
     cast-put-head
+    cast-put-head-2
     put-head-requires
     sub-put-padded
     part-put-padded-start
     part-put-padded-end
     put-padded-requires
+    sub-put-padded-2
+    part-put-padded-start-2
+    part-put-padded-end-2
+    put-padded-requires-2
     same-length
     returns)

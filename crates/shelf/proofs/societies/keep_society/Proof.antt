@@ -37,12 +37,12 @@ same-length c = search needs
 
 returns : tie.Need-returns
 returns c =
-    let kept = c .before .before in
+    let kept = c .before .before .keep-in in
     let found = c .before .before .before .before .start-of in
-    let start = c .before .before .before .before .before .before .before in
+    let start = c .before .before .before .before .before .before .before .before in
     let a = start .args in
     keep-within base (a .society) (a .shelf .now) (found .result) (found .result + sizeOf base (a .society)) (found .ensures) refl (start .pre .1)
-    (a .job) (slotOf slotWords (a .job) (a .loss) (a .gap) (a .values .now)) (kept .keep-in .last .0) (kept .keep-in .ensures)
+    (a .job) (slotOf slotWords (a .job) (a .loss) (a .gap) (a .values .now) (a .multipliers .now)) (kept .last .0) (kept .ensures)
 
 pub keep-society-spec : {M : Type 1} → statement M
 keep-society-spec =

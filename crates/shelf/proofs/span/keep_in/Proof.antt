@@ -17,12 +17,11 @@ enum-known-found c = search needs
 
 put-at-requires : tie.Need-put-at-requires
 put-at-requires c κs =
-    let at = c .before .before in
-    let found = at .before .before in
-    let start = found .before .before .before .before in
+    let at = c .before .before .found .given in
+    let start = c .before .before .before .before .before .before .before .before .before in
     let a = start .args in
-    let below = for-below slotWords (a .count) (a .job) (a .span .now) (at .found .given .0 .0) (sym (found .slot-for .ensures) ∙ at .found .given .1) in
-    (omega arith, start .pre .2)
+    let below = for-below slotWords (a .count) (a .job) (a .span .now) (at .0 .0) (sym (c .before .before .before .before .slot-for .ensures) ∙ at .1) in
+    (omega arith, start .pre .2, start .pre .3)
 
 enum-told : tie.Need-enum-told
 enum-told c = search needs
@@ -35,24 +34,19 @@ same-length c = search needs
 
 returns : tie.Need-returns
 returns c =
-    let put = c .before .before in
-    let at = put .before .before .before in
-    let found = at .before .before in
-    let a = found .before .before .before .before .args in
-    put .put-at .ensures
-    ∙ kept-at slotWords (a .count) (a .job) (a .span .now) (slotOf slotWords (a .job) (a .loss) (a .gap) (a .values .now)) (at .found .given .0 .0) (sym (found .slot-for .ensures) ∙ at .found .given .1)
+    let at = c .before .before .before .before .before .found .given in
+    let a = c .before .before .before .before .before .before .before .before .before .before .before .before .args in
+    c .before .before .put-at .ensures
+    ∙ kept-at slotWords (a .count) (a .job) (a .span .now) (slotOf slotWords (a .job) (a .loss) (a .gap) (a .values .now) (a .multipliers .now)) (at .0 .0) (sym (c .before .before .before .before .before .before .before .slot-for .ensures) ∙ at .1)
 
 same-length-2 : tie.Need-same-length-2
 same-length-2 c = search needs
 
 returns-2 : tie.Need-returns-2
 returns-2 c =
-    let put = c .before .before in
-    let told = put .before .before in
-    let found = told .before .before in
-    let a = found .before .before .before .before .args in
-    put .push .ensures
-    ∙ kept-none slotWords (a .count) (a .job) (a .span .now) (slotOf slotWords (a .job) (a .loss) (a .gap) (a .values .now)) (sym (found .slot-for .ensures) ∙ told .enum-told .given .1)
+    let a = c .before .before .before .before .before .before .before .before .before .before .before .args in
+    c .before .before .push .ensures
+    ∙ kept-none slotWords (a .count) (a .job) (a .span .now) (slotOf slotWords (a .job) (a .loss) (a .gap) (a .values .now) (a .multipliers .now)) (sym (c .before .before .before .before .before .before .slot-for .ensures) ∙ c .before .before .before .before .enum-told .given .1)
 
 pub keep-in-spec : {M : Type 1} → statement M
 keep-in-spec =

@@ -43,7 +43,7 @@ loop-again c =
     let i = head .loop .i in (
       omega arith,
       simp length-set (head .loop .inv .1),
-      ap (λ (l : List ℕ). set l i (getD (a .src .now) i 0)) (head .loop .inv .2) ∙ copy-more (a .src .now) (a .dst .now) i (omega arith) (omega arith),
+      ap (λ (l : List ℕ). set l i (getD (a .src .now) i 0)) (head .loop .inv .2) ∙ copy-more 0 (a .src .now) (a .dst .now) i (omega arith) (omega arith),
     )
 
 same-length : tie.Need-same-length Inv-loop μ-loop

@@ -4,7 +4,7 @@ use mathlib.Core.Path.{_≡_, ap, _∙_}
 use mathlib.Core.List.{List}
 use borrow.Author.Tests.{eq-eqb, ne-eqb}
 use lib.ListN.{length}
-use Rattle.shelf.specs.declared.Answer.{Answer}
+use Rattle.checked.specs.declared.Answer.{Answer}
 use Rattle.bench.specs.Answers.{codeOf, answerWords, Says}
 use Rattle.bench.proofs.Small.{Small, code-told}
 

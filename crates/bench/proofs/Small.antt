@@ -25,8 +25,8 @@ use Rattle.measure.specs.declared.check.Verdict.the-variants.{Accepted, Refused
 use Rattle.measure.specs.Loss.{lossOf}
 use Rattle.measure.specs.Gap.{gapOf}
 use Rattle.measure.specs.Check.{lowestFailing, inBox, holds, judgedOf, verdictOf, valuesOf, multipliersOf, onRead, proposalVerdict, checkOf}
-use Rattle.shelf.specs.declared.Answer.{Answer}
-use Rattle.shelf.specs.Checked.{answerOf}
+use Rattle.checked.specs.declared.Answer.{Answer}
+use Rattle.checked.specs.Answers.{answerOf}
 use Rattle.bench.specs.Answers.{codeOf}
 
 pub record Small (a : Answer) : Type 0 where

@@ -6,8 +6,8 @@ use mathlib.Core.List.{List, [], _∷_}
 use lib.Dec.{eqb}
 use lib.ListN.{length}
 use Rattle.numbers.specs.Choice.{if_then_else_}
-use Rattle.shelf.specs.declared.Answer.{Answer}
-use Rattle.shelf.specs.Slots.{refusal}
+use Rattle.checked.specs.declared.Answer.{Answer}
+use Rattle.checked.specs.Answers.{refusal}
 
 -- "a call returns 32 times the place plus the number"
 abbrev pub codeOf : Answer → ℕ

@@ -2,14 +2,14 @@
 ghost use mathlib.Core.Path.{_≡_};
 ghost use Prim.Native.Nat.{_^_, _%_};
 ghost use lib.ListN.{length};
-ghost use Rattle.shelf.specs.Checked.{answerOf};
+ghost use Rattle.checked.specs.Answers.{answerOf};
 ghost use Rattle.bench.specs.Answers.{codeOf, answerWords};
 ghost use Rattle.bench.specs.Calls.{outcomeOf};
 use measure::check::Verdict;
 use numbers::zigzag::size_of;
 use packs::Outcome;
-use shelf::Answer;
-use shelf::plain;
+use checked::Answer;
+use checked::plain;
 use std::num::wrapping_add_u64;
 
 // The words of an answer.

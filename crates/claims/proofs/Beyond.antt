@@ -7,7 +7,7 @@ use native.Mathlib.Omega.{arith}
 use lib.Dec.{eqb, leb, ltb}
 use lib.IntN.{ℤ, natAbs}
 use lib.Ieee.{Float}
-use lib.ListN.{length, take, drop, set, length-take}
+use lib.ListN.{length, drop, set}
 use lib.Seq.{sets, drop-drop, drop-append-add}
 use Rattle.numbers.specs.Choice.{if_then_else_}
 use Rattle.fields.specs.declared.Field.the-variants.{Society}
@@ -25,9 +25,10 @@ use Rattle.measure.specs.declared.check.Verdict.the-variants.{Accepted, Refused
 use Rattle.factor.specs.declared.Ending.{Ending}
 use Rattle.factor.specs.declared.Ending.the-variants.{Whole, Thin}
 use Rattle.house.specs.Proposal.{wordsOf, onEnding, solvedOf, proposedOf, onJobRead, proposeOf}
-use Rattle.shelf.specs.declared.Slot.{Slot}
-use Rattle.shelf.specs.declared.Slot.the-variants.{At, Nowhere}
-use Rattle.shelf.specs.Slots.{Reply, refusal, lowest, hasJob, atSlot, overwritten}
+use Rattle.slots.specs.declared.Slot.{Slot}
+use Rattle.slots.specs.declared.Slot.the-variants.{At, Nowhere}
+use Rattle.slots.specs.Slots.{lowest, hasJob, atSlot}
+use Rattle.checked.specs.Answers.{Reply, refusal, overwritten}
 use Rattle.shelf.specs.Fetched.{keptVerdict, handed as handedTo, sameCounts, fetchTable, keptCells, keptLinks, keptValues, keptMultipliers, fetchAt, fetchIn, onJob}
 use Rattle.shelf.specs.Shelf.{Layout, base, spanOf, fromWhole, fetchFrom, fetchReply}
 use Rattle.shelf.specs.Calls.{fetch, wholeSaid, said}

@@ -14,12 +14,13 @@ use Rattle.packs.specs.declared.Outcome.the-variants.{Done, Refused as Refuses}
 use Rattle.jobs.specs.Words.{jobOf}
 use Rattle.jobs.specs.Packs.{readJob}
 use Rattle.jobs.proofs.Readings.{read-jobs-allowed}
-use Rattle.shelf.specs.Slots.{Reply, refusal, leastWords, keptIn, forgotIn, forgetReply}
+use Rattle.slots.specs.Slots.{slotWords, keptIn, forgotIn}
+use Rattle.checked.specs.Answers.{Reply, refusal, accepted}
+use Rattle.shelf.specs.Shelf.{forgetReply, Layout, slotFrom, spanOf, sizeOf, onSociety, fromSociety, keptShelf, fetchFrom, fetchReply, forgotShelf, forgotReply, cleared}
 use Rattle.shelf.specs.Fetched.{fetchIn, onJob}
-use Rattle.shelf.specs.Checked.{Checked, checkedOf, accepted}
-use Rattle.shelf.specs.Shelf.{Layout, slotFrom, spanOf, sizeOf, onSociety, fromSociety, keptShelf, fetchFrom, fetchReply, forgotShelf, forgotReply, cleared}
+use Rattle.checked.specs.Checked.{Checked, checkedOf}
 use Rattle.shelf.specs.Calls.{Call, keep, fetch, forget, clear, wholeAfter, wholeSaid, after, said, shelfRun}
-use Rattle.shelf.proofs.Moves.{slot-length}
+use Rattle.slots.proofs.Steps.{slot-length}
 use Rattle.shelf.proofs.Lengths.{on-whole, from-whole}
 use Rattle.shelf.proofs.Sound.{Sound, accepted-sound}
 use Rattle.shelf.proofs.Spans.{Lawful, society-length, own, other, cleared-length, cleared-span}
@@ -33,7 +34,7 @@ pub record Held (w c : ℕ) (ts : List Table) (s : List ℕ) : Type 0 where
   pub few : length ts ≤ c
   pub fit : AllFit ts
 
-laid-length : (w c : ℕ) (ts : List Table) → leastWords ≤ w → AllFit ts → length (laid w c ts) ≡ w * c
+laid-length : (w c : ℕ) (ts : List Table) → slotWords ≤ w → AllFit ts → length (laid w c ts) ≡ w * c
 unfolding laid
 laid-length w zero ts h a = sym (mul-zero w)
 laid-length w (suc c) [] h a =

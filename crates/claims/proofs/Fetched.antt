@@ -19,14 +19,14 @@ use Rattle.jobs.specs.Packs.{readJob}
 use Rattle.measure.specs.declared.check.Verdict.{Verdict}
 use Rattle.measure.specs.declared.check.Verdict.the-variants.{Accepted, Refused}
 use Rattle.measure.specs.Check.{onRead, proposalVerdict, checkOf}
-use Rattle.shelf.specs.Slots.{Reply, refusal}
-use Rattle.shelf.specs.Checked.{Checked, checkedOf, accepted, valuesOf}
+use Rattle.checked.specs.Answers.{Reply, refusal, accepted}
+use Rattle.checked.specs.Checked.{Checked, checkedOf, valuesOf}
 use Rattle.shelf.specs.Fetched.{handed, sameCounts, onJob}
 use Rattle.shelf.specs.Shelf.{Layout, cleared}
 use Rattle.shelf.specs.Calls.{Call, keep, fetch, forget, clear, said}
 use Rattle.shelf.proofs.Picked.{and-left, and-right}
 use Rattle.shelf.proofs.Spans.{Lawful}
-use Rattle.shelf.proofs.Sound.{accepted-read, values-count, multipliers-count}
+use Rattle.checked.proofs.Sound.{accepted-read, values-count, multipliers-count}
 use Rattle.claims.specs.Read.{jobIn, Reads}
 use Rattle.claims.specs.Lists.{Table, tableFrom, tableFor, isOf, fetched, kept, removed, Lists, onList, nothing, keptLists, listsAfter}
 use Rattle.claims.specs.LastKept.{shelfAfter, listsAfterAll, held}

@@ -4,17 +4,20 @@ use mathlib.Core.Bool.{Bool, true, false, cond, not, _&&_, _||_}
 use mathlib.Core.List.{List, [], _∷_, _++_, append-nil, append-assoc}
 use Prim.Native.Nat.{ℕ, zero, suc, _+_, _-_, _*_, _<_, _≤_, zero-le}
 use native.Mathlib.Omega.{arith}
-use lib.Dec.{eqb, leb, ltb}
+use lib.Dec.{eqb, ltb}
 use lib.ListN.{length, take, drop, getD, replicate, length-append, length-replicate}
 use lib.Seq.{take-at, drop-at}
 use borrow.Author.Tests.{le-leb, ltb-true, ltb-false}
 use Rattle.jobs.specs.Job.{Job}
-use Rattle.shelf.specs.declared.Slot.{Slot}
-use Rattle.shelf.specs.declared.Slot.the-variants.{At, Nowhere}
-use Rattle.shelf.specs.Slots.{Reply, refusal, done, mostCells, mostLinks, headSize, valuesEnd, leastWords, headOf, padded, slotOf, isFull, isEmpty, hasJob, lowest, pick, later, orElse, atSlot, putSlot, droppedSlot, pushed, slotFor, keptIn, forgotIn, forgetReply}
+use Rattle.slots.specs.declared.Slot.{Slot}
+use Rattle.slots.specs.declared.Slot.the-variants.{At, Nowhere}
+use Rattle.slots.specs.Slots.{mostCells, mostLinks, headSize, valuesEnd, slotWords, headOf, padded, slotOf, isFull, isEmpty, hasJob, lowest, pick, later, orElse, atSlot, putSlot, droppedSlot, pushed, slotFor, keptIn, forgotIn}
+use Rattle.checked.specs.Answers.{Reply, refusal, done}
+use Rattle.shelf.specs.Shelf.{forgetReply}
 use Rattle.shelf.specs.Fetched.{fetchTable, fetchAt, fetchIn}
-use Rattle.shelf.proofs.Stored.{padded-length}
-use Rattle.shelf.proofs.Moves.{slot-length, drop-first, put-first, put-next, lowest-step, replacedIn, forgot-step, replaced-step, forget-reply-step, fetch-step}
+use Rattle.slots.proofs.Stored.{padded-length}
+use Rattle.slots.proofs.Steps.{slot-length, drop-first, put-first, put-next, lowest-step, replacedIn, forgot-step, replaced-step}
+use Rattle.shelf.proofs.Picked.{forget-reply-step, fetch-step}
 use Rattle.claims.specs.Lists.{Table, isOf, holds, replaced, removed, youngest, kept, tableFor, fetched, forgotten}
 use Rattle.claims.proofs.Tables.{All}
 
@@ -39,7 +42,7 @@ head-zero : (w : ℕ) (r : List ℕ) → 0 < w → getD (replicate w 0 ++ r) 0 0
 head-zero zero r h = absurd (omega arith)
 head-zero (suc w) r h = refl
 
-module _ (w : ℕ) (wide : leastWords ≤ w) where
+module _ (w : ℕ) (wide : slotWords ≤ w) where
   slot-len : (t : Table) → Fits t → length (slot w t) ≡ w
   slot-len t f = slot-length w (t .job) (t .loss) (t .gap) (t .values) (t .multipliers) (f .1) (omega (arith, f .2))
 

@@ -16,15 +16,15 @@ use Rattle.jobs.specs.Packs.{readJob}
 use Rattle.measure.specs.declared.check.Verdict.{Verdict}
 use Rattle.measure.specs.declared.check.Verdict.the-variants.{Accepted, Refused}
 use Rattle.measure.specs.Check.{checkOf}
-use Rattle.shelf.specs.Slots.{Reply, refusal}
-use Rattle.shelf.specs.Checked.{Checked, checkedOf, accepted, answerOf, valuesOf, multipliersOf}
+use Rattle.checked.specs.Answers.{Reply, refusal, accepted, answerOf}
+use Rattle.checked.specs.Checked.{Checked, checkedOf, valuesOf, multipliersOf}
 use Rattle.shelf.specs.Fetched.{handed, onJob}
 use Rattle.shelf.specs.Shelf.{Layout, cleared}
 use Rattle.shelf.specs.Calls.{Call, keep, fetch, forget, clear, after, said}
 use Rattle.claims.specs.Lists.{Table, tableFrom, isOf, holds, replaced, removed, youngest, kept, tableFor, fetched, Lists, onList, nothing, keptLists, listsAfter}
 use Rattle.claims.specs.LastKept.{isFor, lastAfter, lastFrom, lastKept, shelfAfter, listsAfterAll, held, given}
 use Rattle.claims.specs.Read.{jobIn, Reads}
-use Rattle.shelf.proofs.Sound.{accepted-read, values-count}
+use Rattle.checked.proofs.Sound.{accepted-read, values-count}
 use Rattle.shelf.proofs.Spans.{Lawful}
 use Rattle.claims.proofs.EightLists.{Sim, sim-after, sim-said, sim-cleared}
 use Rattle.claims.proofs.AsChecked.{fetched-checked}

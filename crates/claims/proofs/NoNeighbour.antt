@@ -15,13 +15,14 @@ use Rattle.packs.specs.declared.Outcome.the-variants.{Done, Refused as Refuses}
 use Rattle.jobs.specs.Words.{jobOf}
 use Rattle.jobs.specs.Packs.{readJob}
 use Rattle.jobs.proofs.Readings.{read-jobs-allowed}
-use Rattle.shelf.specs.Slots.{Reply, keptIn, forgotIn, forgetReply}
+use Rattle.slots.specs.Slots.{keptIn, forgotIn}
+use Rattle.checked.specs.Answers.{Reply, accepted, answerOf}
+use Rattle.shelf.specs.Shelf.{forgetReply, Layout, slotFrom, spanOf, sizeOf, onSociety, fromSociety, keptShelf, fetchFrom, fetchReply, forgotShelf, forgotReply}
 use Rattle.shelf.specs.Fetched.{fetchIn, onJob}
-use Rattle.shelf.specs.Checked.{Checked, checkedOf, accepted, answerOf}
-use Rattle.shelf.specs.Shelf.{Layout, slotFrom, spanOf, sizeOf, onSociety, fromSociety, keptShelf, fetchFrom, fetchReply, forgotShelf, forgotReply}
+use Rattle.checked.specs.Checked.{Checked, checkedOf}
 use Rattle.shelf.specs.Calls.{Call, keep, fetch, forget, clear, wholeAfter, wholeSaid, after, said, firstOf, named, is, isNot, names, namesOther}
-use Rattle.shelf.proofs.Moves.{slot-length}
-use Rattle.shelf.proofs.Sizes.{kept-length, forgot-length}
+use Rattle.slots.proofs.Steps.{slot-length}
+use Rattle.slots.proofs.Sizes.{kept-length, forgot-length}
 use Rattle.shelf.proofs.Spans.{Lawful, span-length, society-length, own, other, from-same, cleared-length}
 use Rattle.shelf.proofs.Lengths.{on-whole, from-whole, on-other, from-other}
 use Rattle.shelf.proofs.Sound.{Sound, accepted-sound, accepted-named}

@@ -15,12 +15,13 @@ use Rattle.jobs.specs.Words.{jobOf}
 use Rattle.jobs.specs.Packs.{readJob}
 use Rattle.measure.specs.declared.check.Verdict.{Verdict}
 use Rattle.measure.specs.declared.check.Verdict.the-variants.{Accepted, Refused as Refuses}
-use Rattle.shelf.specs.declared.Slot.{Slot}
-use Rattle.shelf.specs.declared.Slot.the-variants.{At, Nowhere}
-use Rattle.shelf.specs.Slots.{Reply, refusal, done, lowest, hasJob, atSlot, droppedSlot, forgotIn, forgetReply}
+use Rattle.slots.specs.declared.Slot.{Slot}
+use Rattle.slots.specs.declared.Slot.the-variants.{At, Nowhere}
+use Rattle.slots.specs.Slots.{lowest, hasJob, atSlot, droppedSlot, forgotIn}
+use Rattle.checked.specs.Answers.{Reply, refusal, done, accepted, answerOf}
+use Rattle.shelf.specs.Shelf.{forgetReply, Layout, sizeOf, slotFrom, spanOf, onPart, onSociety, fromSociety, keptOn, keptShelf, keepReply, fetchFrom, fetchReply, forgotShelf, forgotReply}
 use Rattle.shelf.specs.Fetched.{keptVerdict, handed, sameCounts, fetchTable, keptCells, keptLinks, keptValues, keptMultipliers, fetchAt, fetchIn, onJob}
-use Rattle.shelf.specs.Checked.{Checked, checkedOf, accepted, answerOf}
-use Rattle.shelf.specs.Shelf.{Layout, sizeOf, slotFrom, spanOf, onPart, onSociety, fromSociety, keptOn, keptShelf, keepReply, fetchFrom, fetchReply, forgotShelf, forgotReply}
+use Rattle.checked.specs.Checked.{Checked, checkedOf}
 use Rattle.shelf.specs.Calls.{Call, keep, fetch, forget, clear, wholeAfter, wholeSaid, after, said}
 use Rattle.shelf.proofs.Lengths.{on-whole, from-whole, on-other, from-other}
 use Rattle.claims.specs.ShelfPromises.{Refused, GivesNothing}

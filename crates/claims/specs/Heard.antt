@@ -2,7 +2,7 @@
 use Prim.Native.Nat.{ℕ}
 use mathlib.Core.Bool.{cond}
 use mathlib.Core.List.{List, [], _∷_}
-use Rattle.shelf.specs.Slots.{Reply}
+use Rattle.checked.specs.Answers.{Reply}
 use Rattle.shelf.specs.Shelf.{Layout}
 use Rattle.shelf.specs.Calls.{Call, after, said, names, namesOther}
 

@@ -5,8 +5,8 @@ use mathlib.Core.Option.{Option, none, some}
 use mathlib.Core.List.{List, [], _∷_}
 use lib.Dec.{eqb}
 use lib.ListN.{length}
-use Rattle.shelf.specs.Slots.{Reply}
-use Rattle.shelf.specs.Checked.{Checked, checkedOf, accepted}
+use Rattle.checked.specs.Answers.{Reply, accepted}
+use Rattle.checked.specs.Checked.{Checked, checkedOf}
 use Rattle.shelf.specs.Shelf.{Layout}
 use Rattle.shelf.specs.Calls.{Call, keep, fetch, forget, clear, after}
 use Rattle.claims.specs.Lists.{Table, tableFrom, Lists, nothing, listsAfter}

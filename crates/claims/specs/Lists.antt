@@ -8,9 +8,9 @@ use lib.ListN.{length}
 use Rattle.jobs.specs.Job.{Job}
 use Rattle.jobs.specs.Words.{jobOf}
 use Rattle.jobs.specs.Packs.{readJob}
-use Rattle.shelf.specs.Slots.{Reply, refusal, done}
+use Rattle.checked.specs.Answers.{Reply, refusal, done, accepted, answerOf}
 use Rattle.shelf.specs.Fetched.{fetchTable, onJob}
-use Rattle.shelf.specs.Checked.{Checked, checkedOf, accepted, answerOf}
+use Rattle.checked.specs.Checked.{Checked, checkedOf}
 use Rattle.shelf.specs.Shelf.{keepReply}
 use Rattle.shelf.specs.Calls.{Call, keep, fetch, forget, clear}
 

@@ -10,8 +10,8 @@ use lib.ListN.{length}
 use Rattle.jobs.specs.Job.{Job}
 use Rattle.jobs.specs.Packs.{readJob}
 use Rattle.measure.specs.Check.{checkOf}
-use Rattle.shelf.specs.Slots.{Reply, refusal}
-use Rattle.shelf.specs.Checked.{checkedOf, accepted}
+use Rattle.checked.specs.Answers.{Reply, refusal, accepted}
+use Rattle.checked.specs.Checked.{checkedOf}
 use Rattle.shelf.specs.Fetched.{handed, sameCounts}
 use Rattle.shelf.specs.Shelf.{base, spanOf, cleared}
 use Rattle.shelf.specs.Calls.{Call, fetch, after, said, shelfRun, names}

@@ -9,7 +9,7 @@ use Rattle.rows.specs.Rows.{rowOf}
 use Rattle.measure.specs.Loss.{lossOf}
 use Rattle.measure.specs.Gap.{linkSum, residualOf, gapOf}
 use Rattle.measure.specs.Check.{lowestFrom, verdictOf}
-use Rattle.shelf.specs.Checked.{checkedOf}
+use Rattle.checked.specs.Checked.{checkedOf}
 use Rattle.line.specs.Line.{digitsIn, later, checkedLine, lineOf}
 use Rattle.line.specs.Promises.{WorkedLines}
 

@@ -19,9 +19,9 @@ use Rattle.jobs.specs.Packs.{readJob}
 use Rattle.measure.specs.declared.check.Verdict.{Verdict}
 use Rattle.measure.specs.declared.check.Verdict.the-variants.{Accepted, Refused}
 use Rattle.measure.specs.Check.{proposalWords, checkOf}
-use Rattle.shelf.specs.Checked.{checkedOf}
-use Rattle.shelf.specs.Slots.{overwritten}
-use Rattle.shelf.proofs.Packs.{given-packs}
+use Rattle.checked.specs.Checked.{checkedOf}
+use Rattle.checked.specs.Answers.{overwritten}
+use Rattle.checked.proofs.Packs.{given-packs}
 use Rattle.line.specs.Line.{printed, checkedLine, packsLine, lineOf}
 use Rattle.line.specs.Puts.{Puts}
 use Rattle.line.specs.Promises.{LinesFit}

@@ -7,7 +7,7 @@ use lib.IntN.{ℤ}
 use lib.ListN.{length, getD, take}
 use lib.Seq.{take-all}
 use Rattle.jobs.specs.Words.{countAt}
-use Rattle.shelf.specs.Given.{Rates, firstValues}
+use Rattle.checked.specs.Given.{Rates, firstValues}
 use Rattle.line.specs.Line.{field, later}
 use Rattle.line.specs.Puts.{Puts, Room}
 use Rattle.line.proofs.Stores.{puts-same}

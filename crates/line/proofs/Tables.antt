@@ -1,5 +1,5 @@
 -- The line of an accepted table, from a job's words and a proposal's rates on to the two packs.
-use Prim.Native.Nat.{ℕ, _+_, _≤_}
+use Prim.Native.Nat.{ℕ, _≤_}
 use mathlib.Core.Path.{_≡_, sym, ap, ap₂, _∙_}
 use mathlib.Core.List.{List, [], _∷_, _++_}
 use native.Mathlib.Omega.{arith}
@@ -11,9 +11,9 @@ use Rattle.jobs.specs.Packs.{readJob}
 use Rattle.measure.specs.declared.check.Verdict.{Verdict}
 use Rattle.measure.specs.declared.check.Verdict.the-variants.{Accepted, Refused}
 use Rattle.measure.specs.Check.{proposalWords, checkOf}
-use Rattle.shelf.specs.Checked.{checkedOf}
-use Rattle.shelf.specs.Given.{JobWords, Rates, firstValues}
-use Rattle.shelf.proofs.Packs.{packs-name}
+use Rattle.checked.specs.Checked.{checkedOf}
+use Rattle.checked.specs.Given.{JobWords, Rates, firstValues}
+use Rattle.checked.proofs.Packs.{packs-name}
 use Rattle.line.specs.Line.{later, printed, verdictLine, checkedLine}
 use Rattle.line.specs.Puts.{Puts, Room, headFields}
 use Rattle.line.proofs.Stores.{puts-then, puts-same, room-first, room-then, room-same}

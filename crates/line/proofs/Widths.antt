@@ -7,8 +7,8 @@ use lib.IntN.{ℤ, natAbs}
 use lib.ListN.{length, getD, length-append}
 use lib.Seq.{length-take-le, getD-take}
 use Rattle.jobs.specs.Words.{wordAt}
-use Rattle.shelf.specs.Given.{Rates, firstValues}
-use Rattle.shelf.proofs.Values.{length-map, map-at}
+use Rattle.checked.specs.Given.{Rates, firstValues}
+use Rattle.checked.proofs.Values.{length-map, map-at}
 use Rattle.line.specs.Line.{decimal, field, later, printed}
 use Rattle.line.specs.Puts.{headFields}
 use Rattle.line.proofs.Digits.{decimals-shortest, digits-most}

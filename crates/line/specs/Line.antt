@@ -10,7 +10,7 @@ use Rattle.numbers.specs.declared.plain.Number.the-variants.{Value, Unreadable}
 use Rattle.numbers.specs.Plain.{numberAt}
 use Rattle.measure.specs.declared.check.Verdict.{Verdict}
 use Rattle.measure.specs.declared.check.Verdict.the-variants.{Accepted, Refused}
-use Rattle.shelf.specs.Checked.{Checked, checkedOf}
+use Rattle.checked.specs.Checked.{Checked, checkedOf}
 
 -- ---- a line of numbers
 -- The ASCII digits of x, in at most so many.

@@ -3,8 +3,8 @@ ghost use mathlib.Core.Path.{_≡_};
 ghost use Prim.Native.Nat.{_≤_};
 ghost use lib.ListN.{length};
 ghost use Rattle.numbers.specs.declared.plain.Number.the-variants.{Value};
-ghost use Rattle.shelf.specs.Checked.{checkedOf};
-ghost use Rattle.shelf.specs.Slots.{overwritten};
+ghost use Rattle.checked.specs.Checked.{checkedOf};
+ghost use Rattle.checked.specs.Answers.{overwritten};
 ghost use Rattle.line.specs.Line.{checkedLine, packsLine, lineOf};
 ghost use Rattle.line.specs.Puts.{Puts};
 

@@ -2,11 +2,11 @@
 ghost use Prim.Native.Nat.{_≤_};
 ghost use mathlib.Core.List.{[], _∷_};
 ghost use lib.ListN.{length};
-ghost use Rattle.shelf.specs.Given.{Rates, firstValues};
+ghost use Rattle.checked.specs.Given.{Rates, firstValues};
 ghost use Rattle.line.specs.Line.{field, later, printed};
 ghost use Rattle.line.specs.Puts.{Puts, Room};
 use crate::decimal::put_number;
-use shelf::accepted::count_at;
+use checked::count_at;
 
 const SPACE: u8 = 32;
 

@@ -4,7 +4,7 @@ ghost use mathlib.Core.List.{_∷_};
 ghost use lib.IntN.{natAbs};
 ghost use lib.ListN.{length};
 ghost use Rattle.jobs.specs.Words.{countAt, cellsOf};
-ghost use Rattle.shelf.specs.Given.{JobWords, Rates, Given, firstValues};
+ghost use Rattle.checked.specs.Given.{JobWords, Rates, Given, firstValues};
 ghost use Rattle.line.specs.Line.{printed};
 ghost use Rattle.line.specs.Puts.{Puts, Room, headFields};
 use crate::decimal::put_number;
@@ -12,7 +12,7 @@ use crate::parted::put_end;
 use crate::parted::put_field;
 use crate::parted::put_values;
 use numbers::zigzag::size_of;
-use shelf::accepted::count_at;
+use checked::count_at;
 
 // The fields before the values.
 fn put_head(society: u64, job: u64, loss: u64, gap: u64, out: &mut [u8]) -> usize

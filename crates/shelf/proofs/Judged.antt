@@ -1,11 +1,11 @@
 -- Kept numbers as a proposal's words, and the verdict on them by what the searches for a number that is not allowed found.
-use mathlib.Core.Path.{_≡_, refl, sym, ap, ap₂, _∙_, subst}
-use mathlib.Core.Bool.{Bool, true, false, cond}
+use mathlib.Core.Path.{_≡_, refl, sym, ap, _∙_, subst}
+use mathlib.Core.Bool.{Bool, true}
 use mathlib.Core.List.{List, [], _∷_, _++_, map, append-assoc}
 use Prim.Native.Nat.{ℕ, zero, suc, _+_, _-_, _<_, _≤_}
 use native.Mathlib.Nat.{le-of-eq}
 use native.Mathlib.Omega.{arith}
-use lib.Dec.{leb, ltb, lit<}
+use lib.Dec.{lit<}
 use lib.IntN.{ℤ, pos, natAbs}
 use lib.ListN.{length, take, drop, getD, length-drop, length-append, length-map, List·getD-append}
 use lib.Seq.{take-at, drop-drop, getD-append-add}
@@ -16,17 +16,18 @@ use borrow.Rule.Slice.PartMut.{putMid, midOf}
 use Rattle.whole.proofs.Fits.{small-fits, gives}
 use Rattle.numbers.specs.Choice.{if_then_else_}
 use Rattle.jobs.specs.Job.{Job}
-use Rattle.jobs.specs.Words.{wordAt, cellsOf, linksOf, jobOf}
+use Rattle.jobs.specs.Words.{wordAt, linksOf}
 use Rattle.jobs.specs.Allowed.{Upto, Proposed}
 use Rattle.measure.specs.declared.check.Verdict.{Verdict}
 use Rattle.measure.specs.declared.check.Verdict.the-variants.{Accepted, Refused}
 use Rattle.measure.specs.Given as M
 use Rattle.measure.proofs.Lowest.{lowest-all, passed-all}
-use Rattle.shelf.specs.Slots.{Reply, refusal, headSize, valuesEnd}
+use Rattle.slots.specs.Slots.{headSize, valuesEnd}
+use Rattle.checked.specs.Answers.{refusal}
 use Rattle.shelf.specs.Fetched.{mostValue, mostMultiplier, upTo, lowestAbove, orSix, proposalOf, verdictFor, keptVerdict, handed}
-use Rattle.shelf.specs.Given.{Fetching, Judging}
-use Rattle.shelf.proofs.Values.{map-append}
-use Rattle.shelf.proofs.Stored.{put-last, mid-last}
+use Rattle.shelf.specs.Given.{Judging}
+use Rattle.checked.proofs.Values.{map-append}
+use Rattle.slots.proofs.Stored.{put-last, mid-last}
 
 -- ---- words that are signed
 pub signed-at : (numbers : List ℕ) (i : ℕ) → wordAt (map pos numbers) i ≡ pos (getD numbers i 0)

@@ -5,10 +5,10 @@ use mathlib.Core.List.{List}
 use Prim.Native.Nat.{ℕ}
 use lib.ListN.{length}
 use borrow.Author.Tests.{eq-eqb, ne-eqb}
-use Rattle.shelf.specs.Slots.{Reply, refusal}
+use Rattle.checked.specs.Answers.{Reply, refusal}
 use Rattle.shelf.specs.Shelf.{Layout, onWhole, fromWhole}
 use Rattle.shelf.specs.Calls.{Call, wholeAfter, wholeSaid, after, said}
-use Rattle.shelf.specs.declared.Answer.{Answer}
+use Rattle.checked.specs.declared.Answer.{Answer}
 
 module _ (l : Layout) (shelf : List ℕ) where
   pub on-whole : length shelf ≡ l .total → (f : List ℕ → List ℕ) → f shelf ≡ onWhole l f shelf

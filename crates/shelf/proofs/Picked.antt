@@ -1,20 +1,24 @@
 -- Which case each definition of a span's calls picks, by what the search found. For any w and c.
 use mathlib.Core.Path.{_≡_, refl, sym, ap, ap₂, _∙_, subst}
-use mathlib.Core.Bool.{Bool, true, false, _&&_}
-use mathlib.Core.List.{List}
-use Prim.Native.Nat.{ℕ, _+_, _*_}
+use mathlib.Core.Bool.{Bool, true, false, cond, _&&_}
+use mathlib.Core.List.{List, _++_}
+use Prim.Native.Nat.{ℕ, suc, _+_, _*_}
+use native.Mathlib.Nat.{mul-zero}
 use native.Mathlib.Omega.{arith}
 use lib.Dec.{eqb}
-use lib.ListN.{take, drop, getD}
+use lib.ListN.{length, take, drop, getD}
 use lib.Seq.{getD-drop, drop-drop}
 use borrow.Author.Tests.{eq-eqb, ne-eqb}
 use Rattle.jobs.specs.Job.{Job}
-use Rattle.shelf.specs.Slots.{Reply, refusal, done, headSize, valuesEnd, overwritten, hasJob, lowest, atSlot, slotFor, putSlot, pushed, droppedSlot, keptIn, forgotIn, forgetReply}
+use Rattle.slots.specs.Slots.{headSize, valuesEnd, hasJob, lowest, pick, later, atSlot, slotFor, putSlot, pushed, droppedSlot, keptIn, forgotIn}
+use Rattle.checked.specs.Answers.{Reply, refusal, done, overwritten}
+use Rattle.shelf.specs.Shelf.{forgetReply}
 use Rattle.shelf.specs.Fetched.{keptVerdict, handed, sameCounts, fetchTable, fetchAt, fetchIn}
-use Rattle.shelf.specs.declared.Slot.{Slot}
-use Rattle.shelf.specs.declared.Slot.the-variants.{At, Nowhere}
-use Rattle.shelf.specs.declared.Answer.{Answer}
-use Rattle.shelf.proofs.Search.{first-word}
+use Rattle.slots.specs.declared.Slot.{Slot}
+use Rattle.slots.specs.declared.Slot.the-variants.{At, Nowhere}
+use Rattle.checked.specs.declared.Answer.{Answer}
+use Rattle.slots.proofs.Lowest.{first-word}
+use Rattle.slots.proofs.Steps.{drop-next, by-slot}
 
 module _ (w c job : ℕ) (s : List ℕ) where
   -- ---- a keep
@@ -46,6 +50,26 @@ module _ (w c : ℕ) (j : Job) (s : List ℕ) where
   pub fetch-none : (room : ℕ) → lowest (hasJob (j .number)) w c s ≡ Nowhere → refusal 12 0 ≡ fetchIn w c j room s
   unfolding fetchIn
   fetch-none room e = sym (ap {B = Reply} (λ (o : Slot). atSlot o (λ q. fetchAt j room (drop (w * q) s)) (refusal 12 0)) e)
+
+-- ---- a forget and a fetch on c + 1 slots, by those on the c after the first
+module _ (w : ℕ) (y rest : List ℕ) (len : length y ≡ w) (c : ℕ) where
+  pub forget-reply-step : (job : ℕ) (b : Bool) → hasJob job (y ++ rest) ≡ b → forgetReply w (suc c) job (y ++ rest) ≡ cond b done (forgetReply w c job rest)
+  unfolding forgetReply
+  forget-reply-step job b e = by-slot w y rest len c job b e (λ p. done) (refusal 12 0) ∙ go b (lowest (hasJob job) w c rest)
+    where
+      go : (b : Bool) (o : Slot) → atSlot (pick b (At 0) (later o)) (λ p. done) (refusal 12 0) ≡ cond b done (atSlot o (λ p. done) (refusal 12 0))
+      go true o = refl
+      go false (At p) = refl
+      go false Nowhere = refl
+
+  pub fetch-step : (j : Job) (b : Bool) → hasJob (j .number) (y ++ rest) ≡ b → (room : ℕ) → fetchIn w (suc c) j room (y ++ rest) ≡ cond b (fetchAt j room (y ++ rest)) (fetchIn w c j room rest)
+  unfolding fetchIn
+  fetch-step j b e room = by-slot w y rest len c (j .number) b e (λ p. fetchAt j room (drop (w * p) (y ++ rest))) (refusal 12 0) ∙ go b (lowest (hasJob (j .number)) w c rest)
+    where
+      go : (b : Bool) (o : Slot) → atSlot (pick b (At 0) (later o)) (λ p. fetchAt j room (drop (w * p) (y ++ rest))) (refusal 12 0) ≡ cond b (fetchAt j room (y ++ rest)) (atSlot o (λ p. fetchAt j room (drop (w * p) rest)) (refusal 12 0))
+      go true o = ap {B = Reply} (λ (k : ℕ). fetchAt j room (drop k (y ++ rest))) (mul-zero w)
+      go false (At p) = ap {B = Reply} (λ (l : List ℕ). fetchAt j room l) (drop-next w y rest len p)
+      go false Nowhere = refl
 
 -- a call's two clauses about a reply, from the reply
 pub replied : (r q : Reply) (a : Answer) (out last : List ℕ) → r ≡ q → a ≡ r .answer → last ≡ overwritten out (r .values) → (a ≡ q .answer) × (last ≡ overwritten out (q .values))

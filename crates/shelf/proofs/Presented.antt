@@ -13,7 +13,7 @@ use Rattle.jobs.specs.Allowed.{Allowed, Laid}
 use Rattle.jobs.specs.Packs.{readJob}
 use Rattle.jobs.proofs.Handed.{held-room, held-part}
 use Rattle.jobs.proofs.Readings.{read-jobs-allowed, read-jobs-laid, read-words-counted, read-words-few}
-use Rattle.shelf.specs.Slots.{Reply, refusal}
+use Rattle.checked.specs.Answers.{Reply, refusal}
 use Rattle.shelf.specs.Fetched.{onJob}
 use Rattle.shelf.specs.Shelf.{Layout, fetchFrom, fetchReply}
 

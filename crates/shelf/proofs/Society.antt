@@ -6,9 +6,10 @@ use Prim.Native.Nat.{ℕ, _+_, _-_, _<_, _≤_}
 use native.Mathlib.Omega.{arith}
 use borrow.Author.Tests.{le-leb, lt-leb}
 use borrow.Rule.Slice.PartMut.{putMid, midOf}
-use Rattle.shelf.specs.Slots.{Reply, refusal, keptIn, forgotIn, forgetReply}
-use Rattle.shelf.specs.Shelf.{Layout, sizeOf, spanOf, onPart, onSociety, fromSociety, keptOn, forgotShelf, forgotReply}
-use Rattle.shelf.specs.declared.Answer.{Answer}
+use Rattle.slots.specs.Slots.{keptIn, forgotIn}
+use Rattle.checked.specs.Answers.{Reply, refusal}
+use Rattle.shelf.specs.Shelf.{forgetReply, Layout, sizeOf, spanOf, onPart, onSociety, fromSociety, keptOn, forgotShelf, forgotReply}
+use Rattle.checked.specs.declared.Answer.{Answer}
 
 module _ (l : Layout) (s : ℕ) (xs : List ℕ) where
   -- ---- a society above 7

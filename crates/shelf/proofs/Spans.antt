@@ -9,12 +9,13 @@ use lib.ListN.{length, take, drop, replicate, length-drop, length-replicate, rep
 use lib.Seq.{length-take-le, take-at, drop-at}
 use borrow.Author.Tests.{le-leb, leb-true, ltb-true, ltb-false}
 use Rattle.shelf.specs.Shelf.{Layout, sizeOf, base, spanOf, onPart, onSociety, fromSociety, cleared}
-use Rattle.shelf.specs.Slots.{Reply, refusal, leastWords}
+use Rattle.slots.specs.Slots.{slotWords}
+use Rattle.checked.specs.Answers.{Reply, refusal}
 use Rattle.shelf.proofs.Parts.{on-length, on-own, on-before, on-after}
 
 -- the spans of a layout lie within the shelf, one after the other, and hold at least one slot, in which a table has room
 pub record Lawful (l : Layout) : Type 0 where
-  pub wide : leastWords ≤ l .words
+  pub wide : slotWords ≤ l .words
   pub some : (s : ℕ) → s ≤ 7 → 0 < l .count s
   pub within : (s : ℕ) → s ≤ 7 → l .start s + sizeOf l s ≤ l .total
   pub apart : (s t : ℕ) → s < t → t ≤ 7 → l .start s + sizeOf l s ≤ l .start t

@@ -7,8 +7,8 @@ use mathlib.Core.List.{List, [], _∷_}
 use lib.Dec.{eqb}
 use lib.IntN.{ℤ, natAbs}
 use Rattle.jobs.specs.Packs.{readJob}
-use Rattle.shelf.specs.Slots.{Reply, done}
-use Rattle.shelf.specs.Checked.{checkedOf}
+use Rattle.checked.specs.Answers.{Reply, done}
+use Rattle.checked.specs.Checked.{checkedOf}
 use Rattle.shelf.specs.Shelf.{Layout, onWhole, fromWhole, keptShelf, keepReply, fetchReply, forgotShelf, forgotReply, cleared}
 
 pub data Call : Type 0 where

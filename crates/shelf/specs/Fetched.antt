@@ -13,7 +13,8 @@ use Rattle.jobs.specs.Job.{Job}
 use Rattle.measure.specs.declared.check.Verdict.{Verdict}
 use Rattle.measure.specs.declared.check.Verdict.the-variants.{Accepted, Refused}
 use Rattle.measure.specs.Check.{lowestFailing, verdictOf, valuesOf, multipliersOf}
-use Rattle.shelf.specs.Slots.{Reply, refusal, headSize, valuesEnd, hasJob, lowest, atSlot}
+use Rattle.slots.specs.Slots.{headSize, valuesEnd, hasJob, lowest, atSlot}
+use Rattle.checked.specs.Answers.{Reply, refusal}
 
 -- ---- kept numbers
 

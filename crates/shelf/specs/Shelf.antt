@@ -4,11 +4,12 @@ use mathlib.Core.Bool.{cond}
 use mathlib.Core.List.{List, [], _++_}
 use lib.Dec.{eqb, leb}
 use lib.ListN.{length, take, drop, replicate}
-use Rattle.shelf.specs.Slots.{Reply, refusal, slotOf, keptIn, forgotIn, forgetReply}
 use Rattle.jobs.specs.Job.{Job}
 use Rattle.jobs.specs.Words.{jobOf}
 use Rattle.jobs.specs.Packs.{readJob}
-use Rattle.shelf.specs.Checked.{Checked, accepted, answerOf}
+use Rattle.slots.specs.Slots.{slotWords, slotOf, hasJob, lowest, atSlot, keptIn, forgotIn}
+use Rattle.checked.specs.Answers.{Reply, refusal, done, accepted, answerOf}
+use Rattle.checked.specs.Checked.{Checked}
 use Rattle.shelf.specs.Fetched.{fetchIn, onJob}
 
 -- ---- the layout of a shelf
@@ -26,11 +27,7 @@ sizeOf l society = l .words * l .count society
 
 -- "8 societies …, each 4 places"; W-203: "A place becomes 287 words …; the shelf is 9,184 words"
 abbrev pub base : Layout
-base = record { words = 287; count = λ society. 4; start = λ society. 1148 * society; total = 9184 }
-
--- the words of a slot and of a shelf, as the code has them
-abbrev pub slotWords : ℕ
-slotWords = base .words
+base = record { words = slotWords; count = λ society. 4; start = λ society. 1148 * society; total = 9184 }
 
 abbrev pub shelfWords : ℕ
 shelfWords = base .total
@@ -83,6 +80,10 @@ fetchReply l job room shelf = onJob (readJob job .outcome) (fetchFrom l (jobOf (
 
 unfoldable pub forgotShelf : Layout → (society job : ℕ) → List ℕ → List ℕ
 forgotShelf l society job shelf = onSociety l society (forgotIn (l .words) (l .count society) job) shelf
+
+-- what a forget says of a span
+unfoldable pub forgetReply : ℕ → ℕ → ℕ → List ℕ → Reply
+forgetReply w c job s = atSlot (lowest (hasJob job) w c s) (λ p. done) (refusal 12 0)
 
 unfoldable pub forgotReply : Layout → (society job : ℕ) → List ℕ → Reply
 forgotReply l society job shelf = fromSociety l society (forgetReply (l .words) (l .count society) job) shelf

@@ -1,30 +1,23 @@
 // Keeping an accepted table: the check's verdict, then what the two packs name, then the society's slots.
 ghost use mathlib.Core.Path.{_≡_};
 ghost use mathlib.Core.List.{_++_};
-ghost use Prim.Native.Nat.{_≤_, _<_};
+ghost use Prim.Native.Nat.{_≤_};
 ghost use lib.IntN.{natAbs};
 ghost use lib.ListN.{length, drop};
-ghost use Rattle.jobs.specs.Words.{countAt};
-ghost use Rattle.shelf.specs.Checked.{checkedOf};
+ghost use Rattle.checked.specs.Checked.{checkedOf};
 ghost use Rattle.shelf.specs.Shelf.{base, shelfWords, keptShelf, keepReply};
-ghost use Rattle.shelf.specs.Given.{JobWords, Wordlike, Rated, Given, numbersFrom, keptFrom, tableKept};
-use crate::Answer;
+ghost use Rattle.checked.specs.Given.{JobWords, Wordlike, Given, numbersFrom};
+ghost use Rattle.shelf.specs.Given.{Rated, keptFrom, tableKept};
 use crate::societies::keep_society;
-use crate::span::plain;
+use checked::Answer;
+use checked::count_at;
+use checked::plain;
 use jobs::job::JOB_WORDS;
 use jobs::proposal::PROPOSAL_WORDS;
 use jobs::words::links_at;
 use measure::check::Verdict;
 use measure::check::check_into;
 use numbers::zigzag::size_of;
-
-// The count that stands at `at`: a word of 32 bits at most.
-pub fn count_at(words: &[i64], at: usize) -> u64
-    requires { ⌜ (at < length (now words)) × (countAt (now words) at ≤ 4294967295) ⌝ }
-    ensures { λ r. ⌜ r ≡ countAt (now (words .entry)) at ⌝ }
-{
-    size_of(words[at])
-}
 
 // n numbers from the number a on, as words of a slot.
 fn copy_rates(rates: &[i64], a: usize, n: usize, values: &mut [u32])

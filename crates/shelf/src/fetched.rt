@@ -1,27 +1,28 @@
 // A fetch (document 02, W-203): the job pack, the society's span, the slot that has the job's number, the counts, then what is kept there.
 ghost use mathlib.Core.Path.{_≡_};
 ghost use Prim.Native.Nat.{_+_, _*_, _≤_};
-ghost use lib.ListN.{length, drop, take, getD};
+ghost use lib.ListN.{length, drop, take};
 ghost use Rattle.jobs.specs.Words.{jobOf};
 ghost use Rattle.jobs.specs.Allowed.{Allowed, Laid};
-ghost use Rattle.shelf.specs.Slots.{mostCells, overwritten};
+ghost use Rattle.slots.specs.Slots.{slotWords};
+ghost use Rattle.checked.specs.Answers.{overwritten};
 ghost use Rattle.shelf.specs.Fetched.{fetchAt, fetchIn};
-ghost use Rattle.shelf.specs.Shelf.{base, slotWords, shelfWords, fetchFrom, fetchReply};
-use crate::Answer;
-use crate::HEAD;
-use crate::SLOT_WORDS;
-use crate::Slot;
-use crate::VALUES_END;
-use crate::accepted::count_at;
+ghost use Rattle.shelf.specs.Shelf.{base, shelfWords, fetchFrom, fetchReply};
 use crate::kept::fetch_kept;
-use crate::slots::find_job;
 use crate::societies::SLOTS;
 use crate::societies::start_of;
-use crate::span::plain;
+use checked::Answer;
+use checked::count_at;
+use checked::plain;
 use fields::Field;
 use jobs::job::JOB_WORDS;
 use jobs::words;
 use packs::Outcome;
+use slots::HEAD;
+use slots::SLOT_WORDS;
+use slots::Slot;
+use slots::VALUES_END;
+use slots::search::find_job;
 
 // The table of the slot that begins at the word `at`, for a job's words.
 fn fetch_at(span: &[u32], at: usize, words: &[i64], out: &mut [u32]) -> Answer

@@ -7,19 +7,19 @@ ghost use lib.ListN.{length, drop, take};
 ghost use Rattle.jobs.specs.Words.{jobOf};
 ghost use Rattle.measure.specs.declared.check.Verdict.the-variants.{Accepted};
 ghost use Rattle.measure.specs.Given.{Given};
-ghost use Rattle.shelf.specs.Slots.{overwritten};
+ghost use Rattle.checked.specs.Answers.{overwritten};
 ghost use Rattle.shelf.specs.Fetched.{lowestAbove, proposalOf, verdictFor, keptVerdict, handed};
 ghost use Rattle.shelf.specs.Given.{Fetching, Judging};
-use crate::Answer;
-use crate::HEAD;
-use crate::VALUES_END;
-use crate::span::plain;
-use crate::words::copy_words;
+use checked::Answer;
+use checked::plain;
 use jobs::proposal::PROPOSAL_WORDS;
 use measure::check::Verdict;
 use measure::check::check_words;
 use numbers::zigzag::plus;
 use numbers::zigzag::size_of;
+use slots::HEAD;
+use slots::VALUES_END;
+use slots::words::copy_words;
 
 // The most of a value and of a multiplier.
 const MOST_VALUE: u32 = 1000000;

@@ -6,8 +6,8 @@ use mir.Syntax.{w64}
 use Rattle.jobs.specs.Words.{cellsOf}
 use Rattle.jobs.specs.Packs.{readJob}
 use Rattle.measure.specs.Check.{proposalWords}
-use Rattle.shelf.proofs.Values.{lent-length}
-use Rattle.shelf.proofs.Packs.{given-packs}
+use Rattle.checked.proofs.Values.{lent-length}
+use Rattle.checked.proofs.Packs.{given-packs}
 use Rattle.line.proofs.Stores.{puts-same}
 use Rattle.line.proofs.Tables.{tableLine, accepted-line, refused-line}
 use borrow.Author.Needs.{needs}

@@ -1,7 +1,7 @@
 -- A shelf of another length is refused first; one that has all its words goes to the job pack's own fetch.
 use mathlib.Core.Path.{refl}
 use lib.ListN.{length}
-use Rattle.shelf.specs.Slots.{refusal}
+use Rattle.checked.specs.Answers.{refusal}
 use Rattle.shelf.specs.Shelf.{base, shelfWords, fetchReply}
 use Rattle.shelf.specs.Calls.{fetch, wholeSaid, said}
 use Rattle.shelf.proofs.Picked.{replied}

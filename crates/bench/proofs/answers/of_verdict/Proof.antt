@@ -4,8 +4,8 @@ use mathlib.Core.Path.{sym, ap, ap₂, _∙_}
 use lib.IntN.{ℤ, natAbs}
 use mir.Facts.{toZ-ofZ}
 use mir.Syntax.{w64}
-use Rattle.shelf.specs.declared.Answer.{Answer}
-use Rattle.shelf.specs.Checked.{answerOf}
+use Rattle.checked.specs.declared.Answer.{Answer}
+use Rattle.checked.specs.Answers.{answerOf}
 use borrow.Author.Needs.{needs}
 use Rattle.bench.proofs.answers.of_verdict.Statement.{statement}
 use Rattle.bench.proofs.answers.of_verdict.Tie as tie

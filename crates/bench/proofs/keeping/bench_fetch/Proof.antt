@@ -1,6 +1,6 @@
 -- Fetching is the shelf's own; the answer is given where there is room for it.
 use lib.ListN.{length}
-use Rattle.shelf.specs.Slots.{overwritten}
+use Rattle.checked.specs.Answers.{overwritten}
 use Rattle.shelf.specs.Shelf.{base}
 use Rattle.shelf.specs.Calls.{fetch, said}
 use Rattle.bench.proofs.Endings.{without-room, with-room}

@@ -3,7 +3,7 @@ use Prim.Native.Nat.{ℕ}
 use mathlib.Core.Path.{refl, ap, _∙_}
 use mathlib.Core.List.{[]}
 use Rattle.measure.specs.Check.{checkOf}
-use Rattle.shelf.specs.Checked.{answerOf}
+use Rattle.checked.specs.Answers.{answerOf}
 use Rattle.bench.proofs.Endings.{without-room, with-room}
 use Rattle.bench.proofs.Small.{check-small}
 use borrow.Author.Needs.{needs}

@@ -2,7 +2,7 @@
 use Prim.Native.Nat.{_-_, _≤_}
 use native.Mathlib.Omega.{arith}
 use lib.ListN.{take}
-use Rattle.shelf.specs.Given.{firstValues}
+use Rattle.checked.specs.Given.{firstValues}
 use Rattle.line.specs.Line.{later}
 use Rattle.line.specs.Puts.{Puts}
 use Rattle.line.proofs.Stores.{puts-length}

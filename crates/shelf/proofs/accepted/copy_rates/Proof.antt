@@ -6,8 +6,8 @@ use native.Mathlib.Omega.{arith}
 use lib.IntN.{natAbs}
 use lib.ListN.{length, set, drop, length-set, length-drop}
 use lib.Seq.{getD-drop}
-use Rattle.shelf.proofs.Copied.{copied, copy-more}
-use Rattle.shelf.proofs.Values.{length-map, map-at}
+use Rattle.slots.proofs.Copied.{copied, copy-more}
+use Rattle.checked.proofs.Values.{length-map, map-at}
 use borrow.Author.Needs.{needs}
 use Rattle.shelf.proofs.accepted.copy_rates.Statement.{statement}
 use Rattle.shelf.proofs.accepted.copy_rates.Tie as tie

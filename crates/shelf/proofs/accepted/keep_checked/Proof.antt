@@ -5,10 +5,11 @@ use mir.Facts.{toZ-ofZ}
 use mir.Syntax.{w64}
 use Rattle.jobs.specs.Packs.{readJob}
 use Rattle.measure.specs.Check.{proposalWords}
-use Rattle.shelf.specs.declared.Answer.{Answer}
+use Rattle.checked.specs.declared.Answer.{Answer}
 use Rattle.shelf.specs.Given.{tableKept}
-use Rattle.shelf.proofs.Values.{lent-length}
-use Rattle.shelf.proofs.Packs.{given-packs, kept-packs, refused-packs}
+use Rattle.checked.proofs.Values.{lent-length}
+use Rattle.checked.proofs.Packs.{given-packs}
+use Rattle.shelf.proofs.Packs.{kept-packs, refused-packs}
 use borrow.Author.Needs.{needs}
 use Rattle.shelf.proofs.accepted.keep_checked.Statement.{statement}
 use Rattle.shelf.proofs.accepted.keep_checked.Tie as tie

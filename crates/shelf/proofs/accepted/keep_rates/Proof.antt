@@ -3,7 +3,7 @@ use mathlib.Core.Path.{_≡_, ap, _∙_}
 use Prim.Native.Nat.{ℕ, _-_}
 use native.Mathlib.Omega.{arith}
 use lib.ListN.{take, drop, replicate}
-use Rattle.shelf.specs.Given.{numbersFrom}
+use Rattle.checked.specs.Given.{numbersFrom}
 use Rattle.shelf.proofs.Packs.{numbers-part, kept-by}
 use borrow.Author.Needs.{needs}
 use Rattle.shelf.proofs.accepted.keep_rates.Statement.{statement}

@@ -1,13 +1,14 @@
 -- The table is kept with the sizes of its loss and gap, and the answer has them too.
 use mathlib.Core.Path.{_≡_, sym, ap, ap₂, _∙_, subst}
-use Prim.Native.Nat.{ℕ, _+_, _*_, _≤_}
+use Prim.Native.Nat.{ℕ, _≤_}
 use native.Mathlib.Omega.{arith}
 use lib.IntN.{ℤ, natAbs}
 use mir.Facts.{toZ-ofZ}
-use Rattle.jobs.specs.Words.{countAt, cellsOf, linksOf}
+use Rattle.jobs.specs.Words.{countAt, linksOf}
 use Rattle.jobs.proofs.Places.{head-few}
-use Rattle.shelf.specs.declared.Answer.{Answer}
-use Rattle.shelf.specs.Given.{numbersFrom, keptFrom, tableKept}
+use Rattle.checked.specs.declared.Answer.{Answer}
+use Rattle.checked.specs.Given.{numbersFrom}
+use Rattle.shelf.specs.Given.{keptFrom, tableKept}
 use Rattle.shelf.proofs.Packs.{links-place, rated-given}
 use borrow.Author.Needs.{needs}
 use Rattle.shelf.proofs.accepted.keep_table.Statement.{statement}

@@ -5,7 +5,8 @@ use native.Mathlib.Omega.{arith}
 use lib.ListN.{length, take, drop}
 use borrow.Rule.Slice.PartMut.{mid-len}
 use Rattle.jobs.specs.Words.{jobOf}
-use Rattle.shelf.specs.Slots.{Reply, refusal, headSize, valuesEnd}
+use Rattle.slots.specs.Slots.{headSize, valuesEnd}
+use Rattle.checked.specs.Answers.{Reply, refusal}
 use Rattle.shelf.specs.Fetched.{keptVerdict, handed, fetchAt}
 use Rattle.shelf.proofs.Picked.{replied, cells-differ, links-differ, counts-same}
 use borrow.Author.Needs.{needs}

@@ -1,15 +1,15 @@
 -- The slot that was found is handed out.
-use mathlib.Core.Path.{_≡_, refl, sym, ap, _∙_}
+use mathlib.Core.Path.{refl, sym, ap, _∙_}
 use Prim.Native.Nat.{ℕ, _*_}
 use native.Mathlib.Omega.{arith}
 use lib.ListN.{length, drop}
 use Rattle.jobs.specs.Words.{jobOf}
 use Rattle.jobs.proofs.Places.{cells-inside}
-use Rattle.shelf.specs.Shelf.{slotWords}
-use Rattle.shelf.specs.Slots.{refusal, hasJob, lowest}
-use Rattle.shelf.specs.declared.Slot.{Slot}
+use Rattle.slots.specs.Slots.{slotWords, hasJob, lowest}
+use Rattle.checked.specs.Answers.{refusal}
+use Rattle.slots.specs.declared.Slot.{Slot}
 use Rattle.shelf.specs.Fetched.{fetchAt, fetchIn}
-use Rattle.shelf.proofs.Sizes.{found-below}
+use Rattle.slots.proofs.Sizes.{found-below}
 use Rattle.shelf.proofs.Picked.{replied, fetch-found, fetch-none}
 use borrow.Author.Needs.{needs}
 use Rattle.shelf.proofs.fetched.fetch_in.Statement.{statement}

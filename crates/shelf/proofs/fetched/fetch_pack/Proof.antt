@@ -1,9 +1,9 @@
 -- A job that was read stands in the first k words; a pack that does not read is its refusal.
-use mathlib.Core.Path.{_≡_, refl}
+use mathlib.Core.Path.{refl}
 use lib.IntN.{pos}
 use lib.ListN.{length, take, replicate, length-replicate}
 use Rattle.jobs.specs.Words.{jobOf}
-use Rattle.shelf.specs.Slots.{refusal}
+use Rattle.checked.specs.Answers.{refusal}
 use Rattle.shelf.specs.Shelf.{base, fetchFrom, fetchReply}
 use Rattle.shelf.proofs.Picked.{replied}
 use Rattle.shelf.proofs.Presented.{presented, fetch-read, fetch-unread}

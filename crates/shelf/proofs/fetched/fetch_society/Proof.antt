@@ -1,13 +1,13 @@
 -- The part that is lent is the span of the job's society.
 use mathlib.Core.Path.{_≡_, refl, ap, _∙_}
 use mathlib.Core.List.{List}
-use Prim.Native.Nat.{ℕ, _+_, _-_, _≤_}
+use Prim.Native.Nat.{ℕ, _+_, _-_}
 use native.Mathlib.Omega.{arith}
 use lib.ListN.{length}
 use borrow.Rule.Slice.PartMut.{midOf}
 use Rattle.jobs.specs.Words.{jobOf}
 use Rattle.jobs.proofs.Places.{cells-inside}
-use Rattle.shelf.specs.Slots.{Reply}
+use Rattle.checked.specs.Answers.{Reply}
 use Rattle.shelf.specs.Fetched.{fetchIn}
 use Rattle.shelf.specs.Shelf.{base, sizeOf, fetchFrom}
 use Rattle.shelf.proofs.Picked.{replied}

@@ -7,7 +7,7 @@ use lib.IntN.{ℤ, pos}
 use lib.ListN.{length, set, getD, drop, length-set, length-map}
 use mir.Syntax.{w64}
 use mir.Val.{toZ, ofZ}
-use Rattle.shelf.proofs.Copied.{copied, copy-more, copy-all}
+use Rattle.slots.proofs.Copied.{copied, copy-more, copy-all}
 use Rattle.shelf.proofs.Judged.{signed-at, signed-read}
 use borrow.Author.Needs.{needs}
 use Rattle.shelf.proofs.kept.copy_signed.Statement.{statement}

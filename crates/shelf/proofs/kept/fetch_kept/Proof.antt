@@ -8,7 +8,7 @@ use mir.Val.{toZ, ofZ}
 use Rattle.jobs.specs.Words.{jobOf}
 use Rattle.measure.specs.declared.check.Verdict.{Verdict}
 use Rattle.measure.specs.declared.check.Verdict.the-variants.{Accepted}
-use Rattle.shelf.specs.Slots.{Reply, refusal}
+use Rattle.checked.specs.Answers.{Reply, refusal}
 use Rattle.shelf.specs.Fetched.{keptVerdict, handed}
 use Rattle.shelf.proofs.Picked.{replied}
 use borrow.Author.Needs.{needs}

@@ -4,7 +4,7 @@ use lib.IntN.{ℤ, natAbs}
 use lib.ListN.{length}
 use mir.Facts.{toZ-ofZ}
 use Rattle.measure.specs.declared.check.Verdict.the-variants.{Accepted}
-use Rattle.shelf.specs.Slots.{refusal}
+use Rattle.checked.specs.Answers.{refusal}
 use Rattle.shelf.specs.Fetched.{handed}
 use Rattle.shelf.proofs.Picked.{replied}
 use Rattle.shelf.proofs.Judged.{hand-short, hand-given}

@@ -1,8 +1,8 @@
 -- The part that is lent is the society's span, and the table is kept there.
 use mathlib.Core.Path.{refl}
 use Prim.Native.Nat.{_+_}
-use Rattle.shelf.specs.Slots.{slotOf}
-use Rattle.shelf.specs.Shelf.{base, slotWords, sizeOf}
+use Rattle.slots.specs.Slots.{slotOf, slotWords}
+use Rattle.shelf.specs.Shelf.{base, sizeOf}
 use Rattle.shelf.proofs.Society.{keep-within}
 use borrow.Author.Needs.{needs}
 use Rattle.shelf.proofs.societies.keep_society.Statement.{statement}

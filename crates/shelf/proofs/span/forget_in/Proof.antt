@@ -1,9 +1,8 @@
 -- The slot that was found is dropped.
 use mathlib.Core.Path.{sym, _∙_}
 use native.Mathlib.Omega.{arith}
-use Rattle.shelf.specs.Shelf.{slotWords}
-use Rattle.shelf.specs.Slots.{hasJob}
-use Rattle.shelf.proofs.Sizes.{found-below}
+use Rattle.slots.specs.Slots.{slotWords, hasJob}
+use Rattle.slots.proofs.Sizes.{found-below}
 use Rattle.shelf.proofs.Picked.{forget-at, forget-none}
 use borrow.Author.Needs.{needs}
 use Rattle.shelf.proofs.span.forget_in.Statement.{statement}

@@ -1,9 +1,8 @@
 -- The table goes into the slot that was found; where none was, every slot moves down and it is the last.
 use mathlib.Core.Path.{sym, _∙_}
 use native.Mathlib.Omega.{arith}
-use Rattle.shelf.specs.Shelf.{slotWords}
-use Rattle.shelf.specs.Slots.{slotOf}
-use Rattle.shelf.proofs.Sizes.{for-below}
+use Rattle.slots.specs.Slots.{slotWords, slotOf}
+use Rattle.slots.proofs.Sizes.{for-below}
 use Rattle.shelf.proofs.Picked.{kept-at, kept-none}
 use borrow.Author.Needs.{needs}
 use Rattle.shelf.proofs.span.keep_in.Statement.{statement}

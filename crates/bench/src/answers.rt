@@ -5,11 +5,11 @@ ghost use lib.ListN.{length};
 ghost use Rattle.checked.specs.Answers.{answerOf};
 ghost use Rattle.bench.specs.Answers.{codeOf, answerWords};
 ghost use Rattle.bench.specs.Calls.{outcomeOf};
+use checked::Answer;
+use checked::plain;
 use measure::check::Verdict;
 use numbers::zigzag::size_of;
 use packs::Outcome;
-use checked::Answer;
-use checked::plain;
 use std::num::wrapping_add_u64;
 
 // The words of an answer.

@@ -24,12 +24,7 @@ pub extern "C" fn bench_keep(
 
 // Hand out the values that are kept under a job pack's number, where the check accepts them for that job.
 #[no_mangle]
-pub extern "C" fn bench_fetch(
-    shelf: &[u32],
-    job: &[u8],
-    out: &mut [u32],
-    answer: &mut [u64],
-) -> u64
+pub extern "C" fn bench_fetch(shelf: &[u32], job: &[u8], out: &mut [u32], answer: &mut [u64]) -> u64
     ensures { λ r. ⌜ FetchSays (now (shelf .entry)) (now (job .entry)) (now (out .entry)) (now (answer .entry)) r (now (answer .exit)) (now (out .exit)) ⌝ }
 {
     if answer.len() != ANSWER_WORDS {

@@ -17,9 +17,9 @@ use Rattle.jobs.proofs.Counts.{order-counts}
 use Rattle.jobs.proofs.Readings.{read-words-few}
 use Rattle.measure.specs.declared.check.Verdict.the-variants.{Accepted}
 use Rattle.measure.specs.Check.{ifRead, proposalWords, checkOf}
-use Rattle.checked.specs.Checked.{valuesOf, multipliersOf}
+use Rattle.checked.specs.Checked.{takenFrom, valuesOf, multipliersOf}
 use Rattle.checked.specs.Answers.{accepted}
-use Rattle.checked.specs.Given.{Rates, Wordlike, Given, firstValues, numbersFrom}
+use Rattle.checked.specs.Given.{Rates, Wordlike, Given}
 use Rattle.checked.proofs.Values.{scratch-length, same-word, same-numbers}
 use Rattle.checked.proofs.Sound.{Packed, accepted-read}
 
@@ -88,19 +88,19 @@ module _ (job proposal : List ℕ) (F G : ℤ) (e : checkOf job proposal ≡ Acc
         }));
       }
 
-  same-first : firstValues (cellsOf scratch) rates ≡ valuesOf (jobOf ws) proposal
+  same-first : takenFrom 0 (cellsOf scratch) rates ≡ valuesOf (jobOf ws) proposal
   same-first =
-      ap (λ (n : ℕ). firstValues n rates) (same-count 2) ∙ same-numbers 280 numbers short rates over 0 (cellsOf ws) (omega (arith, packed .proposed .count))
+      ap (λ (n : ℕ). takenFrom 0 n rates) (same-count 2) ∙ same-numbers 280 numbers short rates over 0 (cellsOf ws) (omega (arith, packed .proposed .count))
 
   -- what the packs name is what stands in the lent words
   pub packs-name : {A : Type 0} (f : (society job : ℕ) (values : List ℕ) → A)
-      → f (countAt scratch 0) (countAt scratch 1) (firstValues (cellsOf scratch) rates) ≡ f (countAt ws 0) (countAt ws 1) (valuesOf (jobOf ws) proposal)
+      → f (countAt scratch 0) (countAt scratch 1) (takenFrom 0 (cellsOf scratch) rates) ≡ f (countAt ws 0) (countAt ws 1) (valuesOf (jobOf ws) proposal)
   packs-name {A} f =
-      ap₂ {C = A} (λ (s j : ℕ). f s j (firstValues (cellsOf scratch) rates)) (same-count 0) (same-count 1)
+      ap₂ {C = A} (λ (s j : ℕ). f s j (takenFrom 0 (cellsOf scratch) rates)) (same-count 0) (same-count 1)
       ∙ ap {B = A} (f (countAt ws 0) (countAt ws 1)) same-first
 
   -- and its multipliers
-  pub packs-multiply : numbersFrom (cellsOf scratch) (linksOf scratch) rates ≡ multipliersOf (jobOf ws) proposal
+  pub packs-multiply : takenFrom (cellsOf scratch) (linksOf scratch) rates ≡ multipliersOf (jobOf ws) proposal
   packs-multiply =
-      ap₂ (λ (a n : ℕ). numbersFrom a n rates) (same-count 2) same-links
+      ap₂ (λ (a n : ℕ). takenFrom a n rates) (same-count 2) same-links
       ∙ same-numbers 280 numbers short rates over (cellsOf ws) (linksOf ws) (omega (arith, packed .proposed .count))

@@ -12,7 +12,7 @@ use mir.Val.{toZ, ofZ}
 use Rattle.whole.proofs.Fits.{small-fits, gives}
 use Rattle.jobs.specs.Words.{wordAt}
 use Rattle.jobs.proofs.Places.{zeros-at}
-use Rattle.checked.specs.Given.{numbersFrom}
+use Rattle.checked.specs.Checked.{takenFrom}
 
 -- ---- sizes
 pub length-map : (f : ℤ → ℕ) (xs : List ℤ) → length (map f xs) ≡ length xs
@@ -29,7 +29,7 @@ map-append f [] ys = refl
 map-append {A} {B} f (x ∷ xs) ys = ap (λ (l : List B). f x ∷ l) (map-append f xs ys)
 
 -- n numbers of a list that has them are those of any list that it begins
-pub numbers-append : (a n : ℕ) (xs ys : List ℤ) → a + n ≤ length xs → numbersFrom a n (xs ++ ys) ≡ numbersFrom a n xs
+pub numbers-append : (a n : ℕ) (xs ys : List ℤ) → a + n ≤ length xs → takenFrom a n (xs ++ ys) ≡ takenFrom a n xs
 numbers-append a n xs ys h =
     let l = length-map natAbs xs in
     ap (λ (m : List ℕ). take n (drop a m)) (map-append natAbs xs ys)
@@ -65,5 +65,5 @@ module _ (m : ℕ) (ws : List ℤ) (room : length ws ≤ m) (scratch : List ℤ)
       ap (λ (l : List ℤ). wordAt l i) in-front
       ∙ past-end ws (drop (0 + length ws) (replicate m (pos 0))) (λ k. getD-drop (0 + length ws) (replicate m (pos 0)) k (pos 0) ∙ zeros-at m (0 + length ws + k)) i
 
-  pub same-numbers : (a n : ℕ) → a + n ≤ length ws → numbersFrom a n scratch ≡ numbersFrom a n ws
-  same-numbers a n h = ap (numbersFrom a n) in-front ∙ numbers-append a n ws (drop (0 + length ws) (replicate m (pos 0))) h
+  pub same-numbers : (a n : ℕ) → a + n ≤ length ws → takenFrom a n scratch ≡ takenFrom a n ws
+  same-numbers a n h = ap (takenFrom a n) in-front ∙ numbers-append a n ws (drop (0 + length ws) (replicate m (pos 0))) h

@@ -2,7 +2,7 @@
 -- society and the job number that the job pack names, and the values and multipliers of the proposal (W-203).
 use Prim.Native.Nat.{ℕ}
 use mathlib.Core.List.{List, map}
-use lib.IntN.{natAbs}
+use lib.IntN.{ℤ, natAbs}
 use lib.ListN.{take, drop}
 use Rattle.jobs.specs.Job.{Job}
 use Rattle.jobs.specs.Words.{jobOf}
@@ -17,13 +17,17 @@ pub record Checked : Type 0 where
   pub values : List ℕ
   pub multipliers : List ℕ
 
+-- n numbers from the number a on
+abbrev pub takenFrom : (a n : ℕ) → List ℤ → List ℕ
+takenFrom a n words = take n (drop a (map natAbs words))
+
 -- The values of a proposal for a job: its first n numbers.
 abbrev pub valuesOf : Job → (proposal : List ℕ) → List ℕ
-valuesOf j proposal = take (j .cells) (map natAbs (readProposal (j .cells) (j .links) proposal .words))
+valuesOf j proposal = takenFrom 0 (j .cells) (readProposal (j .cells) (j .links) proposal .words)
 
 -- Its multipliers: the numbers after them, one a link.
 abbrev pub multipliersOf : Job → (proposal : List ℕ) → List ℕ
-multipliersOf j proposal = take (j .links) (drop (j .cells) (map natAbs (readProposal (j .cells) (j .links) proposal .words)))
+multipliersOf j proposal = takenFrom (j .cells) (j .links) (readProposal (j .cells) (j .links) proposal .words)
 
 unfoldable pub checkedOf : (job proposal : List ℕ) → Checked
 checkedOf job proposal = record {

@@ -1,9 +1,9 @@
 -- What functions count on that are lent the words of an accepted check: the numbers of the two packs lie in the ranges of document 01, "Numbers allowed".
 use Prim.Native.Nat.{ℕ, _+_, _≤_, _<_}
 use mathlib.Core.Path.{_≡_}
-use mathlib.Core.List.{List, map}
+use mathlib.Core.List.{List}
 use lib.IntN.{ℤ, natAbs}
-use lib.ListN.{length, take, drop}
+use lib.ListN.{length}
 use Rattle.jobs.specs.Words.{wordAt, countAt, cellsOf, linksOf}
 use Rattle.jobs.specs.Allowed.{Counts}
 
@@ -32,10 +32,3 @@ pub record Given (words rates : List ℤ) : Type 0 where
   pub job : JobWords words
   pub values : Rates (cellsOf words) rates
   pub multipliers : Wordlike (cellsOf words) (linksOf words) rates
-
--- The first n rates as values, and n numbers from the number a on.
-abbrev pub firstValues : ℕ → List ℤ → List ℕ
-firstValues n rates = take n (map natAbs rates)
-
-abbrev pub numbersFrom : (a n : ℕ) → List ℤ → List ℕ
-numbersFrom a n rates = take n (drop a (map natAbs rates))

@@ -7,7 +7,8 @@ use lib.IntN.{ℤ}
 use lib.ListN.{length, getD, take}
 use lib.Seq.{take-all}
 use Rattle.jobs.specs.Words.{countAt}
-use Rattle.checked.specs.Given.{Rates, firstValues}
+use Rattle.checked.specs.Checked.{takenFrom}
+use Rattle.checked.specs.Given.{Rates}
 use Rattle.line.specs.Line.{field, later}
 use Rattle.line.specs.Puts.{Puts, Room}
 use Rattle.line.proofs.Stores.{puts-same}
@@ -19,19 +20,19 @@ module _ {n : ℕ} {rates : List ℤ} (R : Rates n rates) (i : ℕ) where
   pub rate-count : i < n → (i < length rates) × (countAt rates i ≤ 4294967295)
   rate-count h = (omega (arith, R .inside), omega (arith, R .small i h))
 
-  module _ (h : i < n) (x : ℕ) (e : x ≡ countAt rates i) {out after : List ℕ} {at r : ℕ} (p : Puts (later (take i (firstValues n rates))) out at r after) where
-    inside : i < length (firstValues n rates)
+  module _ (h : i < n) (x : ℕ) (e : x ≡ countAt rates i) {out after : List ℕ} {at r : ℕ} (p : Puts (later (take i (takenFrom 0 n rates))) out at r after) where
+    inside : i < length (takenFrom 0 n rates)
     inside = omega (arith, values-length n rates (R .inside))
 
-    same : x ≡ getD (firstValues n rates) i 0
+    same : x ≡ getD (takenFrom 0 n rates) i 0
     same = e ∙ sym (value-at n rates i h)
 
-    pub room-rate : Room (later (firstValues n rates)) at out → Room (field x) r after
-    room-rate = room-next (firstValues n rates) i inside x same p
+    pub room-rate : Room (later (takenFrom 0 n rates)) at out → Room (field x) r after
+    room-rate = room-next (takenFrom 0 n rates) i inside x same p
 
-    pub put-rate : {last : List ℕ} {s : ℕ} → Puts (field x) after r s last → Puts (later (take (i + 1) (firstValues n rates))) out at s last
-    put-rate = put-next (firstValues n rates) i inside x same p
+    pub put-rate : {last : List ℕ} {s : ℕ} → Puts (field x) after r s last → Puts (later (take (i + 1) (takenFrom 0 n rates))) out at s last
+    put-rate = put-next (takenFrom 0 n rates) i inside x same p
 
   -- after n of them they are all there
-  pub put-rates-all : n ≤ i → {out after : List ℕ} {at r : ℕ} → Puts (later (take i (firstValues n rates))) out at r after → Puts (later (firstValues n rates)) out at r after
-  put-rates-all h p = puts-same (ap later (take-all i (firstValues n rates) (omega (arith, values-length n rates (R .inside))))) p
+  pub put-rates-all : n ≤ i → {out after : List ℕ} {at r : ℕ} → Puts (later (take i (takenFrom 0 n rates))) out at r after → Puts (later (takenFrom 0 n rates)) out at r after
+  put-rates-all h p = puts-same (ap later (take-all i (takenFrom 0 n rates) (omega (arith, values-length n rates (R .inside))))) p

@@ -11,8 +11,8 @@ use Rattle.jobs.specs.Packs.{readJob}
 use Rattle.measure.specs.declared.check.Verdict.{Verdict}
 use Rattle.measure.specs.declared.check.Verdict.the-variants.{Accepted, Refused}
 use Rattle.measure.specs.Check.{proposalWords, checkOf}
-use Rattle.checked.specs.Checked.{checkedOf}
-use Rattle.checked.specs.Given.{JobWords, Rates, firstValues}
+use Rattle.checked.specs.Checked.{takenFrom, checkedOf}
+use Rattle.checked.specs.Given.{JobWords, Rates}
 use Rattle.checked.proofs.Packs.{packs-name}
 use Rattle.line.specs.Line.{later, printed, verdictLine, checkedLine}
 use Rattle.line.specs.Puts.{Puts, Room, headFields}
@@ -22,27 +22,27 @@ use Rattle.line.proofs.Widths.{table-fits, rates-small}
 
 -- ---- a job's words and a proposal's rates
 abbrev pub tableLine : (words rates : List ℤ) (n loss gap : ℕ) → List ℕ
-tableLine words rates n loss gap = printed 0 (countAt words 0 ∷ countAt words 1 ∷ loss ∷ gap ∷ firstValues n rates)
+tableLine words rates n loss gap = printed 0 (countAt words 0 ∷ countAt words 1 ∷ loss ∷ gap ∷ takenFrom 0 n rates)
 
 pub words-fit : (words rates : List ℤ) (n loss gap : ℕ) → JobWords words → Rates n rates → length (tableLine words rates n loss gap) ≤ 1024
-words-fit words rates n loss gap J R = table-fits (countAt words 0) (countAt words 1) loss gap (firstValues n rates) (J .society) (J .number) (rates-small n rates R)
+words-fit words rates n loss gap J R = table-fits (countAt words 0) (countAt words 1) loss gap (takenFrom 0 n rates) (J .society) (J .number) (rates-small n rates R)
 
 module _ {words rates : List ℤ} {n : ℕ} (J : JobWords words) (R : Rates n rates) {s j : ℕ} (p : s ≡ countAt words 0) (q : j ≡ countAt words 1)
     (loss gap : ℕ) (out : List ℕ) (room : 1024 ≤ length out) where
-  parts : headFields s j loss gap ++ (later (firstValues n rates) ++ (10 ∷ [])) ≡ tableLine words rates n loss gap
-  parts = table-parts s j loss gap (firstValues n rates) ∙ ap₂ (λ (a b : ℕ). printed 0 (a ∷ b ∷ loss ∷ gap ∷ firstValues n rates)) p q
+  parts : headFields s j loss gap ++ (later (takenFrom 0 n rates) ++ (10 ∷ [])) ≡ tableLine words rates n loss gap
+  parts = table-parts s j loss gap (takenFrom 0 n rates) ∙ ap₂ (λ (a b : ℕ). printed 0 (a ∷ b ∷ loss ∷ gap ∷ takenFrom 0 n rates)) p q
 
-  whole : Room (headFields s j loss gap ++ (later (firstValues n rates) ++ (10 ∷ []))) 0 out
+  whole : Room (headFields s j loss gap ++ (later (takenFrom 0 n rates) ++ (10 ∷ []))) 0 out
   whole = room-same (sym parts) (record { fits = omega (arith, words-fit words rates n loss gap J R) })
 
   pub room-head : Room (headFields s j loss gap) 0 out
-  room-head = room-first (headFields s j loss gap) (later (firstValues n rates) ++ (10 ∷ [])) whole
+  room-head = room-first (headFields s j loss gap) (later (takenFrom 0 n rates) ++ (10 ∷ [])) whole
 
   module _ {mid : List ℕ} {at : ℕ} (head : Puts (headFields s j loss gap) out 0 at mid) where
-    pub room-values : Room (later (firstValues n rates)) at mid
-    room-values = room-first (later (firstValues n rates)) (10 ∷ []) (room-then head whole)
+    pub room-values : Room (later (takenFrom 0 n rates)) at mid
+    room-values = room-first (later (takenFrom 0 n rates)) (10 ∷ []) (room-then head whole)
 
-    module _ {after : List ℕ} {end : ℕ} (values : Puts (later (firstValues n rates)) mid at end after) where
+    module _ {after : List ℕ} {end : ℕ} (values : Puts (later (takenFrom 0 n rates)) mid at end after) where
       pub room-end : Room (10 ∷ []) end after
       room-end = room-then values (room-then head whole)
 

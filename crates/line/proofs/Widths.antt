@@ -7,7 +7,8 @@ use lib.IntN.{ℤ, natAbs}
 use lib.ListN.{length, getD, length-append}
 use lib.Seq.{length-take-le, getD-take}
 use Rattle.jobs.specs.Words.{wordAt}
-use Rattle.checked.specs.Given.{Rates, firstValues}
+use Rattle.checked.specs.Checked.{takenFrom}
+use Rattle.checked.specs.Given.{Rates}
 use Rattle.checked.proofs.Values.{length-map, map-at}
 use Rattle.line.specs.Line.{decimal, field, later, printed}
 use Rattle.line.specs.Puts.{headFields}
@@ -64,13 +65,13 @@ table-fits society job loss gap values s j S =
       S .few,
     )
 
-pub values-length : (n : ℕ) (rates : List ℤ) → n ≤ length rates → length (firstValues n rates) ≡ n
+pub values-length : (n : ℕ) (rates : List ℤ) → n ≤ length rates → length (takenFrom 0 n rates) ≡ n
 values-length n rates h = length-take-le n (map natAbs rates) (omega (arith, length-map natAbs rates))
 
-pub value-at : (n : ℕ) (rates : List ℤ) (i : ℕ) → i < n → getD (firstValues n rates) i 0 ≡ natAbs (wordAt rates i)
+pub value-at : (n : ℕ) (rates : List ℤ) (i : ℕ) → i < n → getD (takenFrom 0 n rates) i 0 ≡ natAbs (wordAt rates i)
 value-at n rates i h = getD-take n (map natAbs rates) i 0 h ∙ map-at rates i
 
-pub rates-small : (n : ℕ) (rates : List ℤ) → Rates n rates → Small (firstValues n rates)
+pub rates-small : (n : ℕ) (rates : List ℤ) → Rates n rates → Small (takenFrom 0 n rates)
 rates-small n rates R =
     let long = values-length n rates (R .inside) in
     record { few = omega (arith, long, R .few); small = λ i h. let l : i < n = omega arith in omega (arith, value-at n rates i l, R .small i l) }

@@ -2,7 +2,8 @@
 ghost use Prim.Native.Nat.{_≤_};
 ghost use mathlib.Core.List.{[], _∷_};
 ghost use lib.ListN.{length};
-ghost use Rattle.checked.specs.Given.{Rates, firstValues};
+ghost use Rattle.checked.specs.Checked.{takenFrom};
+ghost use Rattle.checked.specs.Given.{Rates};
 ghost use Rattle.line.specs.Line.{field, later, printed};
 ghost use Rattle.line.specs.Puts.{Puts, Room};
 use crate::decimal::put_number;
@@ -42,8 +43,8 @@ pub fn put_two(a: u64, b: u64, out: &mut [u8]) -> usize
 
 // The first n rates as later fields.
 pub fn put_values(rates: &[i64], n: usize, at: usize, out: &mut [u8]) -> usize
-    requires { ⌜ Rates n (now rates) × Room (later (firstValues n (now rates))) at (now out) ⌝ }
-    ensures { λ r. ⌜ Puts (later (firstValues n (now (rates .entry)))) (now (out .entry)) at r (now (out .exit)) ⌝ }
+    requires { ⌜ Rates n (now rates) × Room (later (takenFrom 0 n (now rates))) at (now out) ⌝ }
+    ensures { λ r. ⌜ Puts (later (takenFrom 0 n (now (rates .entry)))) (now (out .entry)) at r (now (out .exit)) ⌝ }
 {
     let mut next = at;
     let mut i: usize = 0;

@@ -4,15 +4,16 @@ ghost use mathlib.Core.List.{_∷_};
 ghost use lib.IntN.{natAbs};
 ghost use lib.ListN.{length};
 ghost use Rattle.jobs.specs.Words.{countAt, cellsOf};
-ghost use Rattle.checked.specs.Given.{JobWords, Rates, Given, firstValues};
+ghost use Rattle.checked.specs.Checked.{takenFrom};
+ghost use Rattle.checked.specs.Given.{JobWords, Rates, Given};
 ghost use Rattle.line.specs.Line.{printed};
 ghost use Rattle.line.specs.Puts.{Puts, Room, headFields};
 use crate::decimal::put_number;
 use crate::parted::put_end;
 use crate::parted::put_field;
 use crate::parted::put_values;
-use numbers::zigzag::size_of;
 use checked::count_at;
+use numbers::zigzag::size_of;
 
 // The fields before the values.
 fn put_head(society: u64, job: u64, loss: u64, gap: u64, out: &mut [u8]) -> usize
@@ -29,7 +30,7 @@ fn put_head(society: u64, job: u64, loss: u64, gap: u64, out: &mut [u8]) -> usiz
 // The line of the first n rates, under the society and the number of a job's words.
 fn put_rates(words: &[i64], rates: &[i64], n: usize, loss: u64, gap: u64, out: &mut [u8]) -> usize
     requires { ⌜ JobWords (now words) × Rates n (now rates) × (1024 ≤ length (now out)) ⌝ }
-    ensures { λ r. ⌜ Puts (printed 0 (countAt (now (words .entry)) 0 ∷ countAt (now (words .entry)) 1 ∷ loss ∷ gap ∷ firstValues n (now (rates .entry)))) (now (out .entry)) 0 r (now (out .exit)) ⌝ }
+    ensures { λ r. ⌜ Puts (printed 0 (countAt (now (words .entry)) 0 ∷ countAt (now (words .entry)) 1 ∷ loss ∷ gap ∷ takenFrom 0 n (now (rates .entry)))) (now (out .entry)) 0 r (now (out .exit)) ⌝ }
 {
     let society = count_at(words, 0);
     let number = count_at(words, 1);
@@ -41,7 +42,7 @@ fn put_rates(words: &[i64], rates: &[i64], n: usize, loss: u64, gap: u64, out: &
 // The line of a table that the check has accepted with that loss and gap: the numbers of a proposal, for a job's words.
 pub fn put_table(words: &[i64], rates: &[i64], loss: i64, gap: i64, out: &mut [u8]) -> usize
     requires { ⌜ Given (now words) (now rates) × (1024 ≤ length (now out)) ⌝ }
-    ensures { λ r. ⌜ Puts (printed 0 (countAt (now (words .entry)) 0 ∷ countAt (now (words .entry)) 1 ∷ natAbs loss ∷ natAbs gap ∷ firstValues (cellsOf (now (words .entry))) (now (rates .entry)))) (now (out .entry)) 0 r (now (out .exit)) ⌝ }
+    ensures { λ r. ⌜ Puts (printed 0 (countAt (now (words .entry)) 0 ∷ countAt (now (words .entry)) 1 ∷ natAbs loss ∷ natAbs gap ∷ takenFrom 0 (cellsOf (now (words .entry))) (now (rates .entry)))) (now (out .entry)) 0 r (now (out .exit)) ⌝ }
 {
     let f = size_of(loss);
     let g = size_of(gap);

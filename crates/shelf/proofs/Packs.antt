@@ -15,18 +15,18 @@ use Rattle.measure.specs.declared.check.Verdict.the-variants.{Accepted, Refused
 use Rattle.measure.specs.Check.{proposalWords, checkOf}
 use Rattle.checked.specs.declared.Answer.{Answer}
 use Rattle.slots.specs.Slots.{slotOf, slotWords}
-use Rattle.checked.specs.Checked.{checkedOf, valuesOf, multipliersOf}
+use Rattle.checked.specs.Checked.{takenFrom, checkedOf, valuesOf, multipliersOf}
 use Rattle.checked.specs.Answers.{accepted, answerOf}
 use Rattle.shelf.specs.Shelf.{base, keptOn, keptShelf, keepReply}
-use Rattle.checked.specs.Given.{Given, numbersFrom}
+use Rattle.checked.specs.Given.{Given}
 use Rattle.shelf.specs.Given.{Rated, keptFrom, tableKept}
 use Rattle.checked.proofs.Values.{length-map}
 use Rattle.checked.proofs.Packs.{packs-name, packs-multiply}
 
 -- ---- the numbers of a slot
-pub numbers-part : (a n : ℕ) (rates : List ℤ) (rest values : List ℕ) → a + n ≤ length rates → values ≡ numbersFrom a n rates ++ rest → take n values ≡ numbersFrom a n rates
+pub numbers-part : (a n : ℕ) (rates : List ℤ) (rest values : List ℕ) → a + n ≤ length rates → values ≡ takenFrom a n rates ++ rest → take n values ≡ takenFrom a n rates
 numbers-part a n rates rest values h e =
-    ap (take n) e ∙ take-at (numbersFrom a n rates) rest n (length-take-le n (drop a (map natAbs rates)) (rw length-drop (omega (arith, length-map natAbs rates))))
+    ap (take n) e ∙ take-at (takenFrom a n rates) rest n (length-take-le n (drop a (map natAbs rates)) (rw length-drop (omega (arith, length-map natAbs rates))))
 
 -- where the count of links stands, after that many cells
 pub links-place : (words : List ℤ) {n : ℕ} → n ≡ cellsOf words → headWords words + 4 * n ≡ headWords words + 4 * cellsOf words
@@ -72,7 +72,7 @@ module _ (job proposal : List ℕ) (F G : ℤ) (e : checkOf job proposal ≡ Acc
       let ms = multipliersOf (jobOf ws) proposal in (
         p ∙ sym (ap {B = Answer} answerOf e),
         k
-            ∙ packs-name job proposal F G e scratch stored rates read (λ s j vs. keptOn base s j (slotOf slotWords j (natAbs F) (natAbs G) vs (numbersFrom (cellsOf scratch) (linksOf scratch) rates)) shelf)
+            ∙ packs-name job proposal F G e scratch stored rates read (λ s j vs. keptOn base s j (slotOf slotWords j (natAbs F) (natAbs G) vs (takenFrom (cellsOf scratch) (linksOf scratch) rates)) shelf)
             ∙ ap (λ (y : List ℕ). keptOn base s j (slotOf slotWords j (natAbs F) (natAbs G) vs y) shelf) (packs-multiply job proposal F G e scratch stored rates read)
             ∙ sym (ap (λ (v : Verdict). cond (accepted v) (keptOn base s j (slotOf slotWords j (answerOf v .loss) (answerOf v .gap) vs ms) shelf) shelf) e),
       )

@@ -8,7 +8,8 @@ use lib.ListN.{length}
 use Rattle.jobs.specs.Words.{countAt, cellsOf, linksOf, jobOf}
 use Rattle.jobs.specs.Allowed.{Allowed, Laid}
 use Rattle.slots.specs.Slots.{slotWords, slotOf}
-use Rattle.checked.specs.Given.{Wordlike, numbersFrom}
+use Rattle.checked.specs.Checked.{takenFrom}
+use Rattle.checked.specs.Given.{Wordlike}
 use Rattle.shelf.specs.Fetched.{upTo, mostValue, mostMultiplier}
 use Rattle.shelf.specs.Shelf.{base, keptOn}
 
@@ -27,7 +28,7 @@ keptFrom words loss gap values multipliers shelf =
 
 abbrev pub tableKept : (words : List ℤ) (loss gap : ℕ) (rates : List ℤ) (shelf : List ℕ) → List ℕ
 tableKept words loss gap rates shelf =
-    keptFrom words loss gap (numbersFrom 0 (cellsOf words) rates) (numbersFrom (cellsOf words) (linksOf words) rates) shelf
+    keptFrom words loss gap (takenFrom 0 (cellsOf words) rates) (takenFrom (cellsOf words) (linksOf words) rates) shelf
 
 -- ---- a fetch
 -- A job's words that were read, and kept numbers of as many cells and links.

@@ -4,9 +4,9 @@ ghost use mathlib.Core.List.{_++_};
 ghost use Prim.Native.Nat.{_≤_};
 ghost use lib.IntN.{natAbs};
 ghost use lib.ListN.{length, drop};
-ghost use Rattle.checked.specs.Checked.{checkedOf};
+ghost use Rattle.checked.specs.Checked.{takenFrom, checkedOf};
 ghost use Rattle.shelf.specs.Shelf.{base, shelfWords, keptShelf, keepReply};
-ghost use Rattle.checked.specs.Given.{JobWords, Wordlike, Given, numbersFrom};
+ghost use Rattle.checked.specs.Given.{JobWords, Wordlike, Given};
 ghost use Rattle.shelf.specs.Given.{Rated, keptFrom, tableKept};
 use crate::societies::keep_society;
 use checked::Answer;
@@ -22,7 +22,7 @@ use numbers::zigzag::size_of;
 // n numbers from the number a on, as words of a slot.
 fn copy_rates(rates: &[i64], a: usize, n: usize, values: &mut [u32])
     requires { ⌜ Wordlike a n (now rates) × (n ≤ length (now values)) ⌝ }
-    ensures { λ _. ⌜ now (values .exit) ≡ numbersFrom a n (now (rates .entry)) ++ drop n (now (values .entry)) ⌝ }
+    ensures { λ _. ⌜ now (values .exit) ≡ takenFrom a n (now (rates .entry)) ++ drop n (now (values .entry)) ⌝ }
 {
     let mut i: usize = 0;
     while i < n {
@@ -34,9 +34,17 @@ fn copy_rates(rates: &[i64], a: usize, n: usize, values: &mut [u32])
 }
 
 // Keep the first n rates with the multipliers after them, under the society and the number of a job's words.
-fn keep_rates(shelf: &mut [u32], words: &[i64], rates: &[i64], n: usize, links: usize, loss: u64, gap: u64)
+fn keep_rates(
+    shelf: &mut [u32],
+    words: &[i64],
+    rates: &[i64],
+    n: usize,
+    links: usize,
+    loss: u64,
+    gap: u64,
+)
     requires { ⌜ (length (now shelf) ≡ shelfWords) × JobWords (now words) × Rated n links (now rates) ⌝ }
-    ensures { λ _. ⌜ now (shelf .exit) ≡ keptFrom (now (words .entry)) loss gap (numbersFrom 0 n (now (rates .entry))) (numbersFrom n links (now (rates .entry))) (now (shelf .entry)) ⌝ }
+    ensures { λ _. ⌜ now (shelf .exit) ≡ keptFrom (now (words .entry)) loss gap (takenFrom 0 n (now (rates .entry))) (takenFrom n links (now (rates .entry))) (now (shelf .entry)) ⌝ }
 {
     let mut values = [0u32; 120];
     copy_rates(rates, 0, n, &mut values);

@@ -12,6 +12,8 @@ ghost use Rattle.shelf.specs.Fetched.{lowestAbove, proposalOf, verdictFo
 ghost use Rattle.shelf.specs.Given.{Fetching, Judging};
 use checked::Answer;
 use checked::plain;
+use fields::limits::MULTIPLIER;
+use fields::limits::RATE;
 use jobs::proposal::PROPOSAL_WORDS;
 use measure::check::Verdict;
 use measure::check::check_words;
@@ -21,18 +23,13 @@ use slots::HEAD;
 use slots::VALUES_END;
 use slots::words::copy_words;
 
-// The most of a value and of a multiplier.
-const MOST_VALUE: u32 = 1000000;
-
-const MOST_MULTIPLIER: u32 = 1000000000;
-
 // The lowest of the numbers that is above `most`, or their count.
-fn lowest_above(numbers: &[u32], most: u32) -> usize
+fn lowest_above(numbers: &[u32], most: u64) -> usize
     ensures { λ r. ⌜ r ≡ lowestAbove most (now (numbers .entry)) ⌝ }
 {
     let mut i: usize = 0;
     while i < numbers.len() {
-        if numbers[i] <= most {
+        if (numbers[i] as u64) <= most {
             i += 1;
         } else {
             return i;
@@ -94,14 +91,14 @@ fn kept_verdict(words: &[i64], values: &[u32], multipliers: &[u32]) -> Verdict
     requires { ⌜ Fetching (now words) (now values) (now multipliers) ⌝ }
     ensures { λ r. ⌜ r ≡ keptVerdict (jobOf (now (words .entry))) (now (values .entry)) (now (multipliers .entry)) ⌝ }
 {
-    let cell = lowest_above(values, MOST_VALUE);
+    let cell = lowest_above(values, RATE);
     if cell < values.len() {
         return Verdict::Refused {
             number: 6,
             place: HEAD + cell,
         };
     }
-    let link = lowest_above(multipliers, MOST_MULTIPLIER);
+    let link = lowest_above(multipliers, MULTIPLIER);
     if link < multipliers.len() {
         return Verdict::Refused {
             number: 6,

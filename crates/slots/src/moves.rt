@@ -9,7 +9,15 @@ use crate::words::shift_down;
 use crate::words::zero_words;
 
 // Slot p becomes the table.
-pub fn put_at(span: &mut [u32], p: usize, job: u32, loss: u64, gap: u64, values: &[u32], multipliers: &[u32])
+pub fn put_at(
+    span: &mut [u32],
+    p: usize,
+    job: u32,
+    loss: u64,
+    gap: u64,
+    values: &[u32],
+    multipliers: &[u32],
+)
     requires { ⌜ (slotWords * p + slotWords ≤ length (now span)) × (length (now values) ≤ mostCells) × (length (now multipliers) ≤ mostLinks) ⌝ }
     ensures { λ _. ⌜ now (span .exit) ≡ putSlot slotWords p (slotOf slotWords job loss gap (now (values .entry)) (now (multipliers .entry))) (now (span .entry)) ⌝ }
 {

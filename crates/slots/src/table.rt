@@ -35,7 +35,14 @@ fn put_padded(part: &mut [u32], words: &[u32])
 }
 
 // A slot's words: its head, the values, the multipliers, zeros after each.
-pub fn put_table(slot: &mut [u32], job: u32, loss: u64, gap: u64, values: &[u32], multipliers: &[u32])
+pub fn put_table(
+    slot: &mut [u32],
+    job: u32,
+    loss: u64,
+    gap: u64,
+    values: &[u32],
+    multipliers: &[u32],
+)
     requires { ⌜ (length (now slot) ≡ slotWords) × (length (now values) ≤ mostCells) × (length (now multipliers) ≤ mostLinks) ⌝ }
     ensures { λ _. ⌜ now (slot .exit) ≡ slotOf slotWords job loss gap (now (values .entry)) (now (multipliers .entry)) ⌝ }
 {

@@ -2,7 +2,7 @@
 use Prim.Native.Nat.{_-_, _≤_}
 use native.Mathlib.Omega.{arith}
 use lib.ListN.{take}
-use Rattle.checked.specs.Given.{firstValues}
+use Rattle.checked.specs.Checked.{takenFrom}
 use Rattle.line.specs.Line.{later}
 use Rattle.line.specs.Puts.{Puts}
 use Rattle.line.proofs.Stores.{puts-length}
@@ -13,7 +13,7 @@ use Rattle.line.proofs.parted.put_values.Statement.{statement}
 use Rattle.line.proofs.parted.put_values.Tie as tie
 
 abbrev Inv-loop : tie.InvT-loop
-Inv-loop rates n at out₀ next₀ i₀ out next i = (i ≤ n) × Puts (later (take i (firstValues n rates))) out₀ at next out
+Inv-loop rates n at out₀ next₀ i₀ out next i = (i ≤ n) × Puts (later (take i (takenFrom 0 n rates))) out₀ at next out
 
 abbrev μ-loop : tie.MeasureT-loop
 μ-loop rates n at out₀ next₀ i₀ out next i = n - i

@@ -7,7 +7,7 @@ use mir.Facts.{toZ-ofZ}
 use Rattle.jobs.specs.Words.{countAt, linksOf}
 use Rattle.jobs.proofs.Places.{head-few}
 use Rattle.checked.specs.declared.Answer.{Answer}
-use Rattle.checked.specs.Given.{numbersFrom}
+use Rattle.checked.specs.Checked.{takenFrom}
 use Rattle.shelf.specs.Given.{keptFrom, tableKept}
 use Rattle.shelf.proofs.Packs.{links-place, rated-given}
 use borrow.Author.Needs.{needs}
@@ -63,7 +63,7 @@ returns c =
     let el : links .result ≡ linksOf words = links .ensures ∙ ap (countAt words) (c .before .before .before .before .before .links-at .ensures ∙ links-place words (n .ensures)) in (
       ap₂ {C = Answer} (λ (x y : ℕ). record { number = 0; place = 0; loss = x; gap = y }) f g,
       c .before .before .keep-rates .ensures
-          ∙ ap₂ (λ (n l : ℕ). keptFrom words (F .result) (G .result) (numbersFrom 0 n rates) (numbersFrom n l rates) shelf) (n .ensures) el
+          ∙ ap₂ (λ (n l : ℕ). keptFrom words (F .result) (G .result) (takenFrom 0 n rates) (takenFrom n l rates) shelf) (n .ensures) el
           ∙ ap₂ (λ (x y : ℕ). tableKept words x y rates shelf) f g,
     )
 

@@ -25,6 +25,9 @@ mul-if1 c = omega arith
 shared-slice-read-if1 : tie.Need-shared-slice-read-if1 Inv-loop μ-loop
 shared-slice-read-if1 c = omega arith
 
+cast-if1 : tie.Need-cast-if1 Inv-loop μ-loop
+cast-if1 c = record { fits = omega (arith, c .shared-slice-known .given (c .before .before .loop .i)) }
+
 add-i : tie.Need-add-i Inv-loop μ-loop
 add-i c = omega arith
 
@@ -58,6 +61,7 @@ lowest-above-spec =
     loop-holds
     mul-if1
     shared-slice-read-if1
+    cast-if1
     add-i
     loop-less
     loop-again

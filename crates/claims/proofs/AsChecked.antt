@@ -5,11 +5,12 @@ use mathlib.Core.Path.{_≡_, refl, sym, ap, ap₂, _∙_, subst}
 use mathlib.Core.Bool.{Bool, true, false, cond, _&&_}
 use mathlib.Core.List.{List, [], _∷_, _++_, map}
 use native.Mathlib.Omega.{arith}
-use borrow.Author.Tests.{ltb-true, ltb-false, eq-eqb}
-use lib.Dec.{ltb}
+use borrow.Author.Tests.{ltb-true, ltb-false, eqb-true, eq-eqb}
+use lib.Dec.{eqb, ltb}
 use lib.IntN.{ℤ, pos, natAbs}
 use lib.ListN.{length, take, drop, getD, length-drop, take-append-drop}
 use lib.Seq.{take-all, getD-drop}
+use Rattle.numbers.specs.Choice.{if_then_else_}
 use Rattle.packs.specs.declared.Outcome.{Outcome}
 use Rattle.packs.specs.Reading.{Ran}
 use Rattle.jobs.specs.Job.{Job}
@@ -21,6 +22,7 @@ use Rattle.checked.specs.Answers.{Reply, refusal, accepted}
 use Rattle.checked.specs.Checked.{checkedOf, valuesOf, multipliersOf}
 use Rattle.shelf.specs.Fetched.{mostValue, mostMultiplier, proposalOf, verdictFor, keptVerdict, handed, sameCounts, fetchTable}
 use Rattle.checked.proofs.Values.{length-map, map-at}
+use Rattle.shelf.proofs.Picked.{and-left, and-right}
 use Rattle.shelf.proofs.Judged.{allowed-verdict}
 use Rattle.checked.proofs.Sound.{Packed, accepted-read, values-count, multipliers-count}
 use Rattle.claims.specs.Read.{jobIn, proposalIn, Reads}
@@ -36,6 +38,11 @@ take-getD (suc n) (suc i) (x ∷ xs) h = take-getD n i xs (omega arith)
 natural-again : (ws : List ℤ) → ((i : ℕ) → i < length ws → wordAt ws i ≡ pos (natAbs (wordAt ws i))) → map pos (map natAbs ws) ≡ ws
 natural-again [] h = refl
 natural-again (w ∷ ws) h = ap₂ (λ (x : ℤ) (xs : List ℤ). x ∷ xs) (sym (h 0 (omega arith))) (natural-again ws (λ i k. h (suc i) (omega arith)))
+
+-- ---- a table against a job with other counts
+pub counts-refused : (j : Job) (room : ℕ) (t : Table) → sameCounts j (length (t .values)) (length (t .multipliers)) ≡ false → tableFor j room t ≡ refusal 12 0
+unfolding fetchTable
+counts-refused j room t e = ap {B = Reply} (λ (b : Bool). cond b (handed room (t .values) (keptVerdict j (t .values) (t .multipliers))) (refusal 12 0)) e
 
 -- ---- what was kept of an accepted proposal
 module _ (old proposal : List ℕ) (yes : accepted (checkOf old proposal) ≡ true) where
@@ -125,7 +132,18 @@ module _ (old proposal : List ℕ) (yes : accepted (checkOf old proposal) ≡ tr
         ap {B = Reply} (λ (b : Bool). cond b (handed room vs (keptVerdict (jobIn job) vs ys)) (refusal 12 0)) same
         ∙ ap {B = Reply} (λ (v : Verdict). handed room vs v) as-checked
 
--- ---- against a job with other counts
-pub counts-refused : (j : Job) (room : ℕ) (t : Table) → sameCounts j (length (t .values)) (length (t .multipliers)) ≡ false → tableFor j room t ≡ refusal 12 0
-unfolding fetchTable
-counts-refused j room t e = ap {B = Reply} (λ (b : Bool). cond b (handed room (t .values) (keptVerdict j (t .values) (t .multipliers))) (refusal 12 0)) e
+  -- ---- against any job
+  module _ (job : List ℕ) (reads : Reads (readJob job .outcome)) (room : ℕ) where
+    by-counts : (b : Bool) → sameCounts (jobIn job) n L ≡ b
+        → tableFor (jobIn job) room (tableFrom (checkedOf old proposal)) ≡ (if b then handed room (checkedOf old proposal .values) (checkOf job proposal) else refusal 12 0)
+    unfolding checkedOf
+    by-counts true e =
+        let c = eqb n (jobIn job .cells) in
+        let l = eqb L (jobIn job .links) in
+        fetched-checked job reads (sym (eqb-true n (jobIn job .cells) (and-left c l e))) (sym (eqb-true L (jobIn job .links) (and-right c l e))) room
+    by-counts false e =
+        counts-refused (jobIn job) room (tableFrom (checkedOf old proposal)) (ap₂ (sameCounts (jobIn job)) (values-count old proposal packed) (multipliers-count old proposal packed) ∙ e)
+
+    pub fetched-by-counts : tableFor (jobIn job) room (tableFrom (checkedOf old proposal))
+        ≡ (if sameCounts (jobIn job) n L then handed room (checkedOf old proposal .values) (checkOf job proposal) else refusal 12 0)
+    fetched-by-counts = by-counts (sameCounts (jobIn job) n L) refl

@@ -312,17 +312,13 @@ accepted-given room job vs ms (Accepted F G) y h =
     ap {B = Reply} (λ (b : Bool). cond b (record { answer = record { number = 0; place = length vs; loss = natAbs F; gap = natAbs G }; values = vs }) (refusal 13 (length vs))) (le-leb (length vs) room h)
 accepted-given room job vs ms (Refused number place) y h = clash y
 
-module _ (l : Layout) (ok : Lawful l) where
-  pub same-of : (calls : List Call) (job proposal : List ℕ) (room : ℕ) → accepted (checkOf job proposal) ≡ true
-      → lastKept (jobIn job .society) (jobIn job .number) calls ≡ some (tableFrom (checkedOf job proposal))
-      → holds (jobIn job .number) (held (l .count) calls (jobIn job .society)) ≡ true → jobIn job .cells ≤ room
-      → said l (shelfAfter l (cleared l) calls) (fetch job room) ≡ given (tableFrom (checkedOf job proposal))
-  unfolding checkedOf
-  same-of calls job proposal room y e p r =
-      let packed = accepted-read job proposal y in
-      last-of l ok calls job room (packed .job-done) (tableFrom (checkedOf job proposal)) e p
-      ∙ fetched-checked job proposal y job (packed .job-done) refl refl room
-      ∙ accepted-given room (jobIn job .number) (valuesOf (jobIn job) proposal) (multipliersOf (jobIn job) proposal) (checkOf job proposal) y (omega (arith, values-count job proposal packed))
+pub same-given : (job proposal : List ℕ) → accepted (checkOf job proposal) ≡ true → (room : ℕ) → jobIn job .cells ≤ room
+    → tableFor (jobIn job) room (tableFrom (checkedOf job proposal)) ≡ given (tableFrom (checkedOf job proposal))
+unfolding checkedOf
+same-given job proposal y room r =
+    let packed = accepted-read job proposal y in
+    fetched-checked job proposal y job (packed .job-done) refl refl room
+    ∙ accepted-given room (jobIn job .number) (valuesOf (jobIn job) proposal) (multipliersOf (jobIn job) proposal) (checkOf job proposal) y (omega (arith, values-count job proposal packed))
 
 -- ---- and no more than that is held
 fetched-lacks : (j : Job) (room : ℕ) (ts : List Table) → holds (j .number) ts ≡ false → fetched j room ts ≡ refusal 12 0

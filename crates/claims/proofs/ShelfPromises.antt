@@ -1,11 +1,15 @@
 -- The promises of the shelf, each a law whose type is its statement in specs/ShelfPromises.antt: what holds for any lawful layout, for document 01's.
+use mathlib.Core.Path.{_∙_}
+use Rattle.checked.specs.Checked.{checkedOf}
+use Rattle.checked.proofs.Sound.{accepted-read}
 use Rattle.shelf.specs.Shelf.{base}
 use Rattle.shelf.proofs.Spans.{base-lawful}
-use Rattle.claims.specs.ShelfPromises.{EightLists, NoNeighbour, OwnSpanDecides, OtherSpansStay, LastKeptFetched, FetchedAsChecked, OtherCountsRefused, SameJobFetched, LostRefused, FourHeld, FetchedAccepted, RefusedStays}
+use Rattle.claims.specs.Lists.{tableFrom}
+use Rattle.claims.specs.ShelfPromises.{EightLists, NoNeighbour, OwnSpanDecides, OtherSpansStay, LastKeptFetched, FetchedAsChecked, SameJobFetched, LostRefused, FourHeld, FetchedAccepted, RefusedStays}
 use Rattle.claims.proofs.EightLists.{lists-of}
 use Rattle.claims.proofs.NoNeighbour.{alone, alone-call, others-stay}
-use Rattle.claims.proofs.AsChecked.{fetched-checked, counts-refused}
-use Rattle.claims.proofs.LastKept.{last-of, same-of, lost-of, few-held}
+use Rattle.claims.proofs.AsChecked.{fetched-by-counts}
+use Rattle.claims.proofs.LastKept.{last-of, same-given, lost-of, few-held}
 use Rattle.claims.proofs.Fetched.{fetched-of}
 use Rattle.claims.proofs.Refusals.{refused-of}
 
@@ -25,13 +29,13 @@ pub last-kept-fetched : LastKeptFetched
 last-kept-fetched = last-of base base-lawful
 
 pub fetched-as-checked : FetchedAsChecked
-fetched-as-checked = λ old proposal job room yes reads ec el. fetched-checked old proposal yes job reads ec el room
-
-pub other-counts-refused : OtherCountsRefused
-other-counts-refused = counts-refused
+fetched-as-checked calls job old proposal room reads k =
+    last-of base base-lawful calls job room reads (tableFrom (checkedOf old proposal)) (k .last) (k .still) ∙ fetched-by-counts old proposal (k .yes) job reads room
 
 pub same-job-fetched : SameJobFetched
-same-job-fetched = same-of base base-lawful
+same-job-fetched calls job proposal room k r =
+    last-of base base-lawful calls job room (accepted-read job proposal (k .yes) .job-done) (tableFrom (checkedOf job proposal)) (k .last) (k .still)
+    ∙ same-given job proposal (k .yes) room r
 
 pub lost-refused : LostRefused
 lost-refused = lost-of base base-lawful

@@ -7,7 +7,7 @@ use mathlib.Core.Bool.{true, false}
 use mathlib.Core.Option.{some}
 use mathlib.Core.List.{List, []}
 use lib.ListN.{length}
-use Rattle.jobs.specs.Job.{Job}
+use Rattle.numbers.specs.Choice.{if_then_else_}
 use Rattle.jobs.specs.Packs.{readJob}
 use Rattle.measure.specs.Check.{checkOf}
 use Rattle.checked.specs.Answers.{Reply, refusal, accepted}
@@ -57,24 +57,24 @@ LastKeptFetched =
     → (t : Table) → lastKept (jobIn job .society) (jobIn job .number) calls ≡ some t → holds (jobIn job .number) (held four calls (jobIn job .society)) ≡ true
     → said base (shelfAfter base (cleared base) calls) (fetch job room) ≡ tableFor (jobIn job) room t
 
--- Where the job presented has as many cells and links as the one under which the table was kept, corrected or not, the answer is that of the check on
--- the kept proposal and the job presented; a job with other counts is refused with 12.
+-- The table last kept under the society and the number of the job presented came of these two packs, and it is among those that the rule still holds.
+pub record KeptUnder (calls : List Call) (job old proposal : List ℕ) : Type 0 where
+  pub yes : accepted (checkOf old proposal) ≡ true
+  pub last : lastKept (jobIn job .society) (jobIn job .number) calls ≡ some (tableFrom (checkedOf old proposal))
+  pub still : holds (jobIn job .number) (held four calls (jobIn job .society)) ≡ true
+
+-- "a fetch checks both against the job presented, answering as the check would": whatever job pack of that society and number is presented, corrected
+-- or not, the answer is what the check says of the kept proposal and the job presented; "12 also when the kept cell or link count differs".
 abbrev pub FetchedAsChecked : Type 0
 FetchedAsChecked =
-    (old proposal job : List ℕ) (room : ℕ) → accepted (checkOf old proposal) ≡ true → Reads (readJob job .outcome)
-    → jobIn job .cells ≡ jobIn old .cells → jobIn job .links ≡ jobIn old .links
-    → tableFor (jobIn job) room (tableFrom (checkedOf old proposal)) ≡ handed room (checkedOf old proposal .values) (checkOf job proposal)
+    (calls : List Call) (job old proposal : List ℕ) (room : ℕ) → Reads (readJob job .outcome) → KeptUnder calls job old proposal
+    → said base (shelfAfter base (cleared base) calls) (fetch job room)
+    ≡ (if sameCounts (jobIn job) (jobIn old .cells) (jobIn old .links) then handed room (checkedOf old proposal .values) (checkOf job proposal) else refusal 12 0)
 
-abbrev pub OtherCountsRefused : Type 0
-OtherCountsRefused =
-    (j : Job) (room : ℕ) (t : Table) → sameCounts j (length (t .values)) (length (t .multipliers)) ≡ false → tableFor j room t ≡ refusal 12 0
-
--- So a fetch with the job pack under which a table was kept gives it, with that F and G, where there is room.
+-- So the very job pack under which a table was kept fetches it, with that F and G, where there is room.
 abbrev pub SameJobFetched : Type 0
 SameJobFetched =
-    (calls : List Call) (job proposal : List ℕ) (room : ℕ) → accepted (checkOf job proposal) ≡ true
-    → lastKept (jobIn job .society) (jobIn job .number) calls ≡ some (tableFrom (checkedOf job proposal))
-    → holds (jobIn job .number) (held four calls (jobIn job .society)) ≡ true → jobIn job .cells ≤ room
+    (calls : List Call) (job proposal : List ℕ) (room : ℕ) → KeptUnder calls job job proposal → jobIn job .cells ≤ room
     → said base (shelfAfter base (cleared base) calls) (fetch job room) ≡ given (tableFrom (checkedOf job proposal))
 
 -- What the rule holds no more, dropped, forgotten or cleared, is refused with 12.

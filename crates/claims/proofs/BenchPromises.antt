@@ -11,17 +11,20 @@ use Rattle.packs.specs.Writing.{roomed}
 use Rattle.jobs.specs.Packs.{readJobInto, writeJob}
 use Rattle.measure.specs.Check.{checkOf}
 use Rattle.shelf.specs.declared.Answer.{Answer}
-use Rattle.shelf.specs.Shelf.{base}
+use Rattle.shelf.specs.Shelf.{base, cleared}
 use Rattle.shelf.specs.Calls.{keep, fetch, forget, clear, after, said}
 use Rattle.house.specs.Proposal.{proposeOf}
+use Rattle.shelf.proofs.Spans.{base-lawful}
 use Rattle.bench.specs.Answers.{codeOf, answerWords, hasFour, Says}
 use Rattle.bench.proofs.Small.{Small, check-small}
 use Rattle.bench.proofs.Outcomes.{propose-small, read-small, write-small}
 use Rattle.bench.proofs.Shelves.{said-small}
-use Rattle.claims.specs.BenchPromises.{Among, Untouched, Determined, Numbered, RefusalsKept, RestsKept, AcceptedTold}
+use Rattle.claims.specs.Seen.{withoutOthers, ownSeen}
+use Rattle.claims.specs.BenchPromises.{Among, Untouched, Determined, Numbered, RefusalsKept, RestsKept, AcceptedTold, EightListsSeen, NoNeighbourSeen}
 use Rattle.claims.proofs.Told.{told-of, kept-told}
 use Rattle.claims.proofs.Unwritten.{Kept, verdict-kept, write-kept, read-kept, propose-kept, shelf-kept, fetch-kept}
 use Rattle.claims.proofs.CallNumbers.{check-number, propose-number, read-number, write-number, keep-number, fetch-number, forget-number, clear-number}
+use Rattle.claims.proofs.Seen.{run-seen, lists-seen, alone-seen}
 use Rattle.claims.proofs.Beyond.{beyond-made, beyond-values, write-within, read-within, propose-within, fetch-within}
 
 -- ---- determined
@@ -155,3 +158,13 @@ accepted-told = record {
       let t = told-by (said-small shelf (keep job proposal)) says z in
       kept-told job proposal shelf a (t .0) (t .1);
 }
+
+-- ---- sequences
+
+pub eight-lists-seen : EightListsSeen
+eight-lists-seen mades seens m = run-seen mades (cleared base) seens m ∙ lists-seen base base-lawful mades
+
+pub no-neighbour-seen : NoNeighbourSeen
+no-neighbour-seen society mades shelf seens fewer m k =
+    let others = withoutOthers society mades in
+    ap (ownSeen society mades) (run-seen mades shelf seens m) ∙ alone-seen base base-lawful society mades shelf ∙ sym (ap (ownSeen society others) (run-seen others shelf fewer k))

@@ -25,4 +25,5 @@ pub mod HousePromises
 pub mod Unwritten
 pub mod Beyond
 pub mod CallNumbers
+pub mod Seen
 pub mod BenchPromises

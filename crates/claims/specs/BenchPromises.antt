@@ -9,11 +9,14 @@ use lib.ListN.{drop}
 use Rattle.numbers.specs.Choice.{if_then_else_}
 use Rattle.measure.specs.declared.check.Verdict.the-variants.{Accepted}
 use Rattle.measure.specs.Check.{checkOf}
+use Rattle.shelf.specs.Shelf.{base, cleared}
 use Rattle.shelf.specs.Calls.{Call, keep, forget, clear}
 use Rattle.bench.specs.Answers.{hasFour}
 use Rattle.bench.specs.Calls.{CheckSays, ProposeSays, ReadSays, WriteSays, ShelfSays, FetchSays}
 use Rattle.claims.specs.Read.{jobIn}
 use Rattle.claims.specs.Meets.{NoneBelow}
+use Rattle.claims.specs.Lists.{nothing, four}
+use Rattle.claims.specs.Seen.{Made, Seen, MakesAll, listsSeen, withoutOthers, ownSeen}
 
 -- What a call may claim of the number that it returns, of its answer slice, and of the slice that it writes to.
 abbrev pub Claim : Type 0 → Type 1
@@ -104,3 +107,17 @@ pub record ToldBest (job proposal answered : List ℕ) : Type 0 where
 pub record AcceptedTold : Type 0 where
   pub check : (job proposal answer : List ℕ) (r : ℕ) (a : List ℕ) → CheckSays job proposal answer r a → r % 32 ≡ 0 → ToldBest job proposal a
   pub keep : (job proposal shelf answer : List ℕ) (r : ℕ) (a x : List ℕ) → ShelfSays (keep job proposal) shelf answer r a x → r % 32 ≡ 0 → ToldBest job proposal a
+
+-- ---- sequences
+
+-- From a cleared shelf, whatever sequence of the calls is made: what C sees of each, the number returned, the answer slice and the output, is what eight
+-- separate lists of at most four tables would say.
+abbrev pub EightListsSeen : Type 0
+EightListsSeen = (mades : List Made) (seens : List Seen) → MakesAll mades (cleared base) seens → seens ≡ listsSeen four nothing mades
+
+-- From any words: what C sees of one society's calls is the same if every call that names another society is left out.
+abbrev pub NoNeighbourSeen : Type 0
+NoNeighbourSeen =
+    (society : ℕ) (mades : List Made) (shelf : List ℕ) (seens fewer : List Seen)
+    → MakesAll mades shelf seens → MakesAll (withoutOthers society mades) shelf fewer
+    → ownSeen society mades seens ≡ ownSeen society (withoutOthers society mades) fewer

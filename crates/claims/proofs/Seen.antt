@@ -62,6 +62,22 @@ record Fixed (l : Layout) (made : Made) (shelf : List ℕ) (seen : Seen) (left :
   seen-is : seen ≡ seenOf made (said l shelf (callOf made))
   left-is : left ≡ leftOn l shelf made
 
+-- a fetch leaves the shelf
+fetch-leaves : (l : Layout) (job : List ℕ) (room : ℕ) (shelf answer : List ℕ) → leftFor answer shelf (after l shelf (fetch job room)) ≡ shelf
+unfolding onWhole
+fetch-leaves l job room shelf answer = go (hasFour answer) (eqb (length shelf) (l .total))
+  where
+    go : (b c : Bool) → (if b then cond c shelf shelf else shelf) ≡ shelf
+    go true true = refl
+    go true false = refl
+    go false c = refl
+
+fetch-fixes : (job out answer shelf : List ℕ) (seen : Seen) (left : List ℕ) → Makes (fetches job out answer) shelf seen left → Fixed base (fetches job out answer) shelf seen left
+fetch-fixes job out answer shelf seen left m = record {
+  seen-is = λ i. record { returned = m .0 .returns i; answered = m .0 .answers i; out = m .0 .leaves i };
+  left-is = m .1 ∙ sym (fetch-leaves base job (length out) shelf answer);
+}
+
 -- the calls without an output are seen alike
 no-output : (r : Reply) (answer shelf ys : List ℕ) (seen : Seen) (left : List ℕ) → Says (r .answer) answer shelf ys (seen .returned) (seen .answered) left
     → seen .out ≡ [] → NoValues r → seen ≡ seenOf (clears answer) r
@@ -74,21 +90,8 @@ no-output r answer shelf ys seen left says e none = λ i. record { returned = sa
     out : seen .out ≡ leftFor answer [] (overwritten [] (r .values))
     out = e ∙ sym (go (hasFour answer))
 
--- a fetch leaves the shelf
-fetch-leaves : (l : Layout) (job : List ℕ) (room : ℕ) (shelf answer : List ℕ) → leftFor answer shelf (after l shelf (fetch job room)) ≡ shelf
-unfolding onWhole
-fetch-leaves l job room shelf answer = go (hasFour answer) (eqb (length shelf) (l .total))
-  where
-    go : (b c : Bool) → (if b then cond c shelf shelf else shelf) ≡ shelf
-    go true true = refl
-    go true false = refl
-    go false c = refl
-
 makes-fixes : (made : Made) (shelf : List ℕ) (seen : Seen) (left : List ℕ) → Makes made shelf seen left → Fixed base made shelf seen left
-makes-fixes (fetches job out answer) shelf seen left m = record {
-  seen-is = λ i. record { returned = m .0 .returns i; answered = m .0 .answers i; out = m .0 .leaves i };
-  left-is = m .1 ∙ sym (fetch-leaves base job (length out) shelf answer);
-}
+makes-fixes (fetches job out answer) shelf seen left m = fetch-fixes job out answer shelf seen left m
 makes-fixes (keeps job proposal answer) shelf seen left m = record {
   seen-is = no-output (said base shelf (keep job proposal)) answer shelf (after base shelf (keep job proposal)) seen left (m .0) (m .1) (whole-none base _ shelf (keep-none job proposal));
   left-is = m .0 .leaves;

@@ -7,7 +7,7 @@ use native.Mathlib.Omega.{arith}
 use lib.Dec.{eqb, leb, ltb}
 use lib.IntN.{ℤ, natAbs}
 use lib.Ieee.{Float}
-use lib.ListN.{length, take, drop, set, length-take}
+use lib.ListN.{length, drop, set}
 use lib.Seq.{sets, drop-drop, drop-append-add}
 use Rattle.numbers.specs.Choice.{if_then_else_}
 use Rattle.fields.specs.declared.Field.the-variants.{Society}

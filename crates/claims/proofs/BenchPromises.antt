@@ -10,18 +10,22 @@ use lib.ListN.{length, drop}
 use Rattle.packs.specs.Writing.{roomed}
 use Rattle.jobs.specs.Packs.{readJobInto, writeJob}
 use Rattle.measure.specs.Check.{checkOf}
-use Rattle.checked.specs.declared.Answer.{Answer}
-use Rattle.shelf.specs.Shelf.{base}
+use Rattle.shelf.specs.declared.Answer.{Answer}
+use Rattle.shelf.specs.Shelf.{base, cleared}
 use Rattle.shelf.specs.Calls.{keep, fetch, forget, clear, after, said}
 use Rattle.house.specs.Proposal.{proposeOf}
+use Rattle.shelf.proofs.Spans.{base-lawful}
 use Rattle.bench.specs.Answers.{codeOf, answerWords, hasFour, Says}
 use Rattle.bench.proofs.Small.{Small, check-small}
 use Rattle.bench.proofs.Outcomes.{propose-small, read-small, write-small}
 use Rattle.bench.proofs.Shelves.{said-small}
-use Rattle.claims.specs.BenchPromises.{Among, Untouched, Determined, Numbered, RefusalsKept, RestsKept, AcceptedTold}
+use Rattle.claims.specs.Seen.{withoutOthers, ownSeen}
+use Rattle.claims.specs.BenchPromises.{Among, Untouched, Determined, Numbered, RefusalsKept, RestsKept, AcceptedTold, EightListsSeen, NoNeighbourSeen}
 use Rattle.claims.proofs.Told.{told-of, kept-told}
+use Rattle.claims.proofs.FetchTold.{fetch-told}
 use Rattle.claims.proofs.Unwritten.{Kept, verdict-kept, write-kept, read-kept, propose-kept, shelf-kept, fetch-kept}
 use Rattle.claims.proofs.CallNumbers.{check-number, propose-number, read-number, write-number, keep-number, fetch-number, forget-number, clear-number}
+use Rattle.claims.proofs.Seen.{run-seen, lists-seen, alone-seen}
 use Rattle.claims.proofs.Beyond.{beyond-made, beyond-values, write-within, read-within, propose-within, fetch-within}
 
 -- ---- determined
@@ -77,13 +81,13 @@ module _ {A : Type 0} {a : Answer} (s : Small a) {answer : List ℕ} {before aft
           }
       go false e = record { lent = says .leaves ∙ rw e; told = says .answers ∙ rw e }
 
-  told-by : r % 32 ≡ 0 → (a .number ≡ 0) × (p ≡ answerWords a)
+  told-by : r % 32 ≡ 0 → (a .number ≡ 0) × (p ≡ answerWords a) × (x ≡ after)
   told-by z = go (hasFour answer) refl
     where
-      go : (t : Bool) → hasFour answer ≡ t → (a .number ≡ 0) × (p ≡ answerWords a)
+      go : (t : Bool) → hasFour answer ≡ t → (a .number ≡ 0) × (p ≡ answerWords a) × (x ≡ after)
       go true e =
           let same : r ≡ codeOf a = says .returns ∙ rw e in
-          (sym (number-of a s) ∙ ap (λ (c : ℕ). c % 32) (sym same) ∙ z, says .answers ∙ rw e)
+          (sym (number-of a s) ∙ ap (λ (c : ℕ). c % 32) (sym same) ∙ z, says .answers ∙ rw e, says .leaves ∙ rw e)
       go false e =
           let same : r ≡ 141 = says .returns ∙ rw e in
           absurd (omega (arith, same))
@@ -154,4 +158,17 @@ accepted-told = record {
   keep = λ job proposal shelf answer r a x says z.
       let t = told-by (said-small shelf (keep job proposal)) says z in
       kept-told job proposal shelf a (t .0) (t .1);
+  fetch = λ shelf job out answer r a x says z.
+      let t = told-by (said-small shelf (fetch job (length out))) says z in
+      fetch-told shelf job out a x (t .0) (t .1) (t .2);
 }
+
+-- ---- sequences
+
+pub eight-lists-seen : EightListsSeen
+eight-lists-seen mades seens m = run-seen mades (cleared base) seens m ∙ lists-seen base base-lawful mades
+
+pub no-neighbour-seen : NoNeighbourSeen
+no-neighbour-seen society mades shelf seens fewer m k =
+    let others = withoutOthers society mades in
+    ap (ownSeen society mades) (run-seen mades shelf seens m) ∙ alone-seen base base-lawful society mades shelf ∙ sym (ap (ownSeen society others) (run-seen others shelf fewer k))

@@ -7,9 +7,9 @@ use mathlib.Core.Bool.{Bool, true, false, cond}
 use mathlib.Core.List.{List, [], _∷_}
 use native.Mathlib.Omega.{arith}
 use borrow.Author.Tests.{eqb-true}
-use lib.Dec.{eqb, leb}
-use lib.IntN.{pos, natAbs}
-use lib.ListN.{length}
+use lib.Dec.{eqb}
+use lib.IntN.{pos}
+use lib.ListN.{length, getD}
 use Rattle.packs.specs.declared.Outcome.{Outcome}
 use Rattle.packs.specs.declared.Outcome.the-variants.{Done, Refused as Refuses}
 use Rattle.packs.specs.Reading.{Ran}
@@ -17,10 +17,9 @@ use Rattle.jobs.specs.Job.{Job}
 use Rattle.jobs.specs.Words.{wordAt}
 use Rattle.jobs.specs.Packs.{readJob}
 use Rattle.measure.specs.declared.check.Verdict.{Verdict}
-use Rattle.measure.specs.declared.check.Verdict.the-variants.{Accepted, Refused}
 use Rattle.measure.specs.Check.{onRead, proposalVerdict, checkOf}
-use Rattle.checked.specs.Answers.{Reply, refusal, accepted}
-use Rattle.checked.specs.Checked.{Checked, checkedOf, valuesOf}
+use Rattle.shelf.specs.Slots.{Reply}
+use Rattle.shelf.specs.Checked.{Checked, checkedOf, accepted, valuesOf}
 use Rattle.shelf.specs.Fetched.{handed, sameCounts, onJob}
 use Rattle.shelf.specs.Shelf.{Layout, cleared}
 use Rattle.shelf.specs.Calls.{Call, keep, fetch, forget, clear, said}
@@ -32,8 +31,7 @@ use Rattle.claims.specs.Lists.{Table, tableFrom, tableFor, isOf, fetched
 use Rattle.claims.specs.LastKept.{shelfAfter, listsAfterAll, held}
 use Rattle.claims.specs.Fetched.{Sent, IsAccepted}
 use Rattle.claims.proofs.Accepted.{no-other-refusal}
-use Rattle.claims.proofs.Told.{verdicted}
-use Rattle.claims.proofs.Best.{best}
+use Rattle.claims.proofs.Told.{handed-told}
 use Rattle.claims.proofs.Tables.{All, all-kept, all-removed}
 use Rattle.claims.proofs.EightLists.{sim-said, sim-cleared}
 use Rattle.claims.proofs.AsChecked.{value-kept, same-proposal, fetched-checked, counts-refused}
@@ -124,28 +122,21 @@ module _ (calls : List Call) (job : List ℕ) (room : ℕ) (reads : Reads (readJ
   vs = valuesOf (jobIn old) proposal
 
   by-verdict : (v : Verdict) → checkOf job proposal ≡ v → handed room vs v .answer .number ≡ 0 → IsAccepted calls job (handed room vs v)
-  by-verdict (Refused number place) q m = absurd (omega (arith, m, no-other-refusal job proposal number place q .0))
-  by-verdict (Accepted F G) q m = go (leb (length vs) room) m
-    where
-      reply : Bool → Reply
-      reply b = cond b (record { answer = record { number = 0; place = length vs; loss = natAbs F; gap = natAbs G }; values = vs }) (refusal 13 (length vs))
-
-      told : checkOf job proposal ≡ Accepted (pos (natAbs F)) (pos (natAbs G))
-      told = verdicted job proposal (Accepted F G) q refl .as-answered
-
-      go : (b : Bool) → reply b .answer .number ≡ 0 → IsAccepted calls job (reply b)
-      go true z = record {
+  by-verdict v q m =
+      let h = handed-told job proposal vs room v q m in
+      record {
         kept-under = old;
         proposal = proposal;
         sent = sent;
         its-society = es;
         its-number = en;
-        accepted = told;
-        count = values-count old proposal (accepted-read old proposal yes) ∙ sym ec;
-        values = λ i h. value-kept old proposal yes i (omega arith) ∙ sym (ap (λ (r : Ran). wordAt (r .words) i) (same-proposal old proposal yes job reads ec el));
-        best = best job proposal (pos (natAbs F)) (pos (natAbs G)) told;
+        accepted = h .accepted;
+        count = ap length (h .given) ∙ values-count old proposal (accepted-read old proposal yes) ∙ sym ec;
+        values = λ i k.
+            ap (λ (xs : List ℕ). pos (getD xs i 0)) (h .given) ∙ value-kept old proposal yes i (omega arith)
+            ∙ sym (ap (λ (r : Ran). wordAt (r .words) i) (same-proposal old proposal yes job reads ec el));
+        best = h .best;
       }
-      go false z = absurd (omega (arith, z))
 
 behind : (calls : List Call) (job : List ℕ) (room : ℕ) → Reads (readJob job .outcome) → (t : Table) → Came calls (jobIn job .society) t → t .job ≡ jobIn job .number
     → tableFor (jobIn job) room t .answer .number ≡ 0 → IsAccepted calls job (tableFor (jobIn job) room t)

@@ -25,4 +25,6 @@ pub mod HousePromises
 pub mod Unwritten
 pub mod Beyond
 pub mod CallNumbers
+pub mod FetchTold
+pub mod Seen
 pub mod BenchPromises

@@ -36,7 +36,7 @@ not-other : (s : ℕ) (o : Option ℕ) → is s o ≡ true → isNot s o ≡ fal
 not-other s none n = refl
 not-other s (some t) n = ap not n
 
-not-this : (s : ℕ) (o : Option ℕ) → isNot s o ≡ true → is s o ≡ false
+pub not-this : (s : ℕ) (o : Option ℕ) → isNot s o ≡ true → is s o ≡ false
 not-this s none n = refl
 not-this s (some t) n = not-true (eqb t s) n
 

@@ -4,7 +4,7 @@ use mathlib.Core.Path.{_≡_, sym, ap₂, _∙_, refl, subst}
 use mathlib.Core.Bool.{Bool, true, false, cond, true≢false}
 use mathlib.Core.List.{List}
 use native.Mathlib.Omega.{arith}
-use lib.Dec.{eqb}
+use lib.Dec.{eqb, leb}
 use lib.IntN.{ℤ, pos, negsuc, natAbs, _-ℤ_}
 use lib.ListN.{length}
 use lib.Signed.{_≤ℤ_}
@@ -20,12 +20,14 @@ use Rattle.measure.specs.declared.check.Verdict.the-variants.{Accepted, Refused
 use Rattle.measure.specs.Loss.{familyOf, familyAcross, acrossAt, lossOf}
 use Rattle.measure.specs.Check.{checkOf}
 use Rattle.measure.proofs.Directions.{loss-at-most}
-use Rattle.checked.specs.Answers.{Reply, refusal, accepted, answerOf}
-use Rattle.checked.specs.Checked.{checkedOf}
+use Rattle.shelf.specs.Slots.{Reply, refusal}
+use Rattle.shelf.specs.Checked.{checkedOf, accepted, answerOf}
+use Rattle.shelf.specs.Fetched.{handed}
 use Rattle.shelf.specs.Shelf.{base, fromWhole, keepReply}
 use Rattle.shelf.specs.Calls.{keep, wholeSaid, said}
 use Rattle.bench.specs.Answers.{answerWords}
 use Rattle.claims.specs.Read.{jobIn, valuesIn, lossIn}
+use Rattle.claims.specs.Meets.{NoneBelow}
 use Rattle.claims.specs.Verdicts.{Acceptable}
 use Rattle.claims.specs.Promises.{LossAtMost}
 use Rattle.claims.specs.BenchPromises.{ToldBest}
@@ -72,20 +74,41 @@ verdicted job proposal (Accepted F G) e y =
     }
 
 -- ---- the words of its answer
-pub told-of : (job proposal answered : List ℕ) (v : Verdict) → checkOf job proposal ≡ v → answerOf v .number ≡ 0 → answered ≡ answerWords (answerOf v) → ToldBest job proposal answered
+pub told-of : (job proposal answered : List ℕ) (v : Verdict) → checkOf job proposal ≡ v → answerOf v .number ≡ 0 → answered ≡ answerWords (answerOf v) → ToldBest job proposal 0 answered
 told-of job proposal answered (Refused number place) e n w = absurd (omega (arith, n, no-other-refusal job proposal number place e .0))
 told-of job proposal answered (Accepted F G) e n w =
     let q = verdicted job proposal (Accepted F G) e refl .as-answered in
     record { F = natAbs F; G = natAbs G; words = w; accepted = q; best = best job proposal (pos (natAbs F)) (pos (natAbs G)) q }
 
 pub kept-told : (job proposal shelf answered : List ℕ) → said base shelf (keep job proposal) .answer .number ≡ 0
-    → answered ≡ answerWords (said base shelf (keep job proposal) .answer) → ToldBest job proposal answered
+    → answered ≡ answerWords (said base shelf (keep job proposal) .answer) → ToldBest job proposal 0 answered
 unfolding fromWhole keepReply checkedOf
 kept-told job proposal shelf answered n w = go (eqb (length shelf) (base .total)) n w
   where
     by : Bool → Reply
     by t = cond t (wholeSaid base shelf (keep job proposal)) (refusal 13 (base .total))
 
-    go : (t : Bool) → by t .answer .number ≡ 0 → answered ≡ answerWords (by t .answer) → ToldBest job proposal answered
+    go : (t : Bool) → by t .answer .number ≡ 0 → answered ≡ answerWords (by t .answer) → ToldBest job proposal 0 answered
     go true m u = told-of job proposal answered (checkOf job proposal) refl m u
     go false m u = absurd (omega (arith, m))
+
+-- ---- the values that a fetch hands out, by the check's verdict on a proposal
+pub record Handed (job proposal values : List ℕ) (r : Reply) : Type 0 where
+  pub place : r .answer .place ≡ length values
+  pub given : r .values ≡ values
+  pub accepted : checkOf job proposal ≡ Accepted (pos (r .answer .loss)) (pos (r .answer .gap))
+  pub best : NoneBelow (jobIn job) (pos (r .answer .loss)) (pos (r .answer .gap))
+
+pub handed-told : (job proposal values : List ℕ) (room : ℕ) (v : Verdict) → checkOf job proposal ≡ v → handed room values v .answer .number ≡ 0 → Handed job proposal values (handed room values v)
+handed-told job proposal values room (Refused number place) e n = absurd (omega (arith, n, no-other-refusal job proposal number place e .0))
+handed-told job proposal values room (Accepted F G) e n = go (leb (length values) room) n
+  where
+    reply : Bool → Reply
+    reply b = cond b (record { answer = record { number = 0; place = length values; loss = natAbs F; gap = natAbs G }; values = values }) (refusal 13 (length values))
+
+    told : checkOf job proposal ≡ Accepted (pos (natAbs F)) (pos (natAbs G))
+    told = verdicted job proposal (Accepted F G) e refl .as-answered
+
+    go : (b : Bool) → reply b .answer .number ≡ 0 → Handed job proposal values (reply b)
+    go true m = record { place = refl; given = refl; accepted = told; best = best job proposal (pos (natAbs F)) (pos (natAbs G)) told }
+    go false m = absurd (omega (arith, m))

@@ -1,19 +1,22 @@
 -- What is promised of the eight calls over C, whatever they are lent: short statements about the claims that their contracts cite. The proof of each
 -- stands in proofs/BenchPromises.antt.
-use Prim.Native.Nat.{ℕ, _/_, _%_, _≤_}
+use Prim.Native.Nat.{ℕ, _/_, _%_, _≤_, _<_}
 use mathlib.Core.Path.{_≡_}
 use mathlib.Core.Logic.{_⊎_}
 use mathlib.Core.List.{List, [], _∷_}
 use lib.IntN.{ℤ, pos}
-use lib.ListN.{drop}
+use lib.ListN.{drop, getD}
 use Rattle.numbers.specs.Choice.{if_then_else_}
 use Rattle.measure.specs.declared.check.Verdict.the-variants.{Accepted}
 use Rattle.measure.specs.Check.{checkOf}
+use Rattle.shelf.specs.Shelf.{base, cleared}
 use Rattle.shelf.specs.Calls.{Call, keep, forget, clear}
 use Rattle.bench.specs.Answers.{hasFour}
 use Rattle.bench.specs.Calls.{CheckSays, ProposeSays, ReadSays, WriteSays, ShelfSays, FetchSays}
-use Rattle.claims.specs.Read.{jobIn}
+use Rattle.claims.specs.Read.{jobIn, valuesIn}
 use Rattle.claims.specs.Meets.{NoneBelow}
+use Rattle.claims.specs.Lists.{nothing, four}
+use Rattle.claims.specs.Seen.{Made, Seen, MakesAll, listsSeen, withoutOthers, ownSeen}
 
 -- What a call may claim of the number that it returns, of its answer slice, and of the slice that it writes to.
 abbrev pub Claim : Type 0 → Type 1
@@ -92,15 +95,36 @@ RestsKept = OfEachOutput RestKept
 
 -- ---- what is told of an accepted table
 
--- The words of an answer are 0, 0, F and G: the check accepts with just these, and no table that meets the job has a loss below F - G.
-pub record ToldBest (job proposal answered : List ℕ) : Type 0 where
+-- The words of an answer are 0, the place, F and G: the check accepts with just these, and no table that meets the job has a loss below F - G.
+pub record ToldBest (job proposal : List ℕ) (place : ℕ) (answered : List ℕ) : Type 0 where
   pub F : ℕ
   pub G : ℕ
-  pub words : answered ≡ 0 ∷ 0 ∷ F ∷ G ∷ []
+  pub words : answered ≡ 0 ∷ place ∷ F ∷ G ∷ []
   pub accepted : checkOf job proposal ≡ Accepted (pos F) (pos G)
   pub best : NoneBelow (jobIn job) (pos F) (pos G)
 
--- So it is wherever check or keep returns the number 0, on any shelf.
+-- The first n words that a fetch leaves in its output, n being its place, are the values of some proposal for the job presented, and this is told of it.
+pub record ToldFetched (job answered left : List ℕ) : Type 0 where
+  pub proposal : List ℕ
+  pub told : ToldBest job proposal (jobIn job .cells) answered
+  pub values : (i : ℕ) → i < jobIn job .cells → pos (getD left i 0) ≡ valuesIn job proposal i
+
+-- So it is wherever check, keep or fetch returns the number 0, whatever words are on the shelf.
 pub record AcceptedTold : Type 0 where
-  pub check : (job proposal answer : List ℕ) (r : ℕ) (a : List ℕ) → CheckSays job proposal answer r a → r % 32 ≡ 0 → ToldBest job proposal a
-  pub keep : (job proposal shelf answer : List ℕ) (r : ℕ) (a x : List ℕ) → ShelfSays (keep job proposal) shelf answer r a x → r % 32 ≡ 0 → ToldBest job proposal a
+  pub check : (job proposal answer : List ℕ) (r : ℕ) (a : List ℕ) → CheckSays job proposal answer r a → r % 32 ≡ 0 → ToldBest job proposal 0 a
+  pub keep : (job proposal shelf answer : List ℕ) (r : ℕ) (a x : List ℕ) → ShelfSays (keep job proposal) shelf answer r a x → r % 32 ≡ 0 → ToldBest job proposal 0 a
+  pub fetch : (shelf job out answer : List ℕ) (r : ℕ) (a x : List ℕ) → FetchSays shelf job out answer r a x → r % 32 ≡ 0 → ToldFetched job a x
+
+-- ---- sequences
+
+-- From a cleared shelf, whatever sequence of the calls is made: what C sees of each, the number returned, the answer slice and the output, is what eight
+-- separate lists of at most four tables would say.
+abbrev pub EightListsSeen : Type 0
+EightListsSeen = (mades : List Made) (seens : List Seen) → MakesAll mades (cleared base) seens → seens ≡ listsSeen four nothing mades
+
+-- From any words: what C sees of one society's calls is the same if every call that names another society is left out.
+abbrev pub NoNeighbourSeen : Type 0
+NoNeighbourSeen =
+    (society : ℕ) (mades : List Made) (shelf : List ℕ) (seens fewer : List Seen)
+    → MakesAll mades shelf seens → MakesAll (withoutOthers society mades) shelf fewer
+    → ownSeen society mades seens ≡ ownSeen society (withoutOthers society mades) fewer

@@ -10,4 +10,5 @@ pub mod LastKept
 pub mod Fetched
 pub mod ShelfPromises
 pub mod HousePromises
+pub mod Seen
 pub mod BenchPromises

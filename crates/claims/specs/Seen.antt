@@ -1,0 +1,87 @@
+-- What C sees of a sequence of the exported calls on a shelf: of each call the number returned, its answer slice and its output. A call is made with
+-- what is sent and with the slices that are lent beside the shelf.
+use Prim.Native.Nat.{ℕ}
+use mathlib.Core.Path.{_≡_}
+use mathlib.Core.Bool.{cond}
+use mathlib.Core.List.{List, [], _∷_}
+use lib.ListN.{length}
+use Rattle.numbers.specs.Choice.{if_then_else_}
+use Rattle.shelf.specs.Slots.{Reply, overwritten}
+use Rattle.shelf.specs.Calls.{Call, keep, fetch, forget, clear, names, namesOther}
+use Rattle.bench.specs.Answers.{hasFour, returnedFor, writtenFor, leftFor}
+use Rattle.bench.specs.Calls.{ShelfSays, FetchSays}
+use Rattle.claims.specs.Lists.{Lists, listsAfter, listsSay}
+
+-- ---- a call that is made, and what is seen of it
+pub data Made : Type 0 where
+  keeps : (job proposal answer : List ℕ) → Made
+  fetches : (job out answer : List ℕ) → Made
+  forgets : (society job : ℕ) (answer : List ℕ) → Made
+  clears : (answer : List ℕ) → Made
+
+-- the call, the answer slice and the output that it is made with; only a fetch has an output
+abbrev pub callOf : Made → Call
+callOf (keeps job proposal answer) = keep job proposal
+callOf (fetches job out answer) = fetch job (length out)
+callOf (forgets society job answer) = forget society job
+callOf (clears answer) = clear
+
+abbrev pub answerLent : Made → List ℕ
+answerLent (keeps job proposal answer) = answer
+answerLent (fetches job out answer) = answer
+answerLent (forgets society job answer) = answer
+answerLent (clears answer) = answer
+
+abbrev pub outLent : Made → List ℕ
+outLent (keeps job proposal answer) = []
+outLent (fetches job out answer) = out
+outLent (forgets society job answer) = []
+outLent (clears answer) = []
+
+pub record Seen : Type 0 where
+  pub returned : ℕ
+  pub answered : List ℕ
+  pub out : List ℕ
+
+-- ---- as the contracts say
+-- One call on a shelf: the claim that its contract cites, of what is seen and of the shelf that is left. A fetch is lent the shelf to read it alone.
+abbrev pub Makes : Made → (shelf : List ℕ) → Seen → (left : List ℕ) → Type 0
+Makes (fetches job out answer) shelf seen left = FetchSays shelf job out answer (seen .returned) (seen .answered) (seen .out) × (left ≡ shelf)
+Makes (keeps job proposal answer) shelf seen left = ShelfSays (keep job proposal) shelf answer (seen .returned) (seen .answered) left × (seen .out ≡ [])
+Makes (forgets society job answer) shelf seen left = ShelfSays (forget society job) shelf answer (seen .returned) (seen .answered) left × (seen .out ≡ [])
+Makes (clears answer) shelf seen left = ShelfSays clear shelf answer (seen .returned) (seen .answered) left × (seen .out ≡ [])
+
+-- A sequence of them, each on the shelf that the one before has left.
+abbrev pub MakesAll : List Made → (shelf : List ℕ) → List Seen → Type 0
+MakesAll [] shelf seen = seen ≡ []
+MakesAll (made ∷ mades) shelf [] = ⊥
+MakesAll (made ∷ mades) shelf (seen ∷ seens) = (left : List ℕ) × Makes made shelf seen left × MakesAll mades left seens
+
+-- ---- as eight lists say
+-- a reply as C sees it
+abbrev pub seenOf : Made → Reply → Seen
+seenOf made reply = record {
+  returned = returnedFor (answerLent made) (reply .answer);
+  answered = writtenFor (answerLent made) (reply .answer);
+  out = leftFor (answerLent made) (outLent made) (overwritten (outLent made) (reply .values));
+}
+
+-- a call whose answer slice has another length than four does nothing
+abbrev pub listsLeft : (count : ℕ → ℕ) → Lists → Made → Lists
+listsLeft count lists made = if hasFour (answerLent made) then listsAfter count lists (callOf made) else lists
+
+abbrev pub listsSeen : (count : ℕ → ℕ) → Lists → List Made → List Seen
+listsSeen count lists [] = []
+listsSeen count lists (made ∷ mades) = seenOf made (listsSay lists (callOf made)) ∷ listsSeen count (listsLeft count lists made) mades
+
+-- ---- one society's calls
+-- the calls made without those that name another society
+abbrev pub withoutOthers : (society : ℕ) → List Made → List Made
+withoutOthers society [] = []
+withoutOthers society (made ∷ mades) = cond (namesOther society (callOf made)) (withoutOthers society mades) (made ∷ withoutOthers society mades)
+
+-- what is seen of the calls that name the society
+abbrev pub ownSeen : (society : ℕ) → List Made → List Seen → List Seen
+ownSeen society [] seens = []
+ownSeen society (made ∷ mades) [] = []
+ownSeen society (made ∷ mades) (seen ∷ seens) = cond (names society (callOf made)) (seen ∷ ownSeen society mades seens) (ownSeen society mades seens)

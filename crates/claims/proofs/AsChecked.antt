@@ -6,7 +6,7 @@ use mathlib.Core.Bool.{Bool, true, false, cond, _&&_}
 use mathlib.Core.List.{List, [], _∷_, _++_, map}
 use native.Mathlib.Omega.{arith}
 use borrow.Author.Tests.{ltb-true, ltb-false, eq-eqb}
-use lib.Dec.{ltb}
+use lib.Dec.{eqb, ltb}
 use lib.IntN.{ℤ, pos, natAbs}
 use lib.ListN.{length, take, drop, getD, length-drop, take-append-drop}
 use lib.Seq.{take-all, getD-drop}
@@ -24,7 +24,7 @@ use Rattle.shelf.specs.Fetched.{mostValue, mostMultiplier, proposalOf, verdictF
 use Rattle.checked.proofs.Values.{length-map, map-at}
 use Rattle.shelf.proofs.Picked.{and-left, and-right}
 use Rattle.shelf.proofs.Judged.{allowed-verdict}
-use Rattle.shelf.proofs.Sound.{Packed, accepted-read, values-count, multipliers-count}
+use Rattle.checked.proofs.Sound.{Packed, accepted-read, values-count, multipliers-count}
 use Rattle.claims.specs.Read.{jobIn, proposalIn, Reads}
 use Rattle.claims.specs.Lists.{Table, tableFrom, tableFor}
 

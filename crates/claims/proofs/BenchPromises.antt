@@ -10,7 +10,7 @@ use lib.ListN.{length, drop}
 use Rattle.packs.specs.Writing.{roomed}
 use Rattle.jobs.specs.Packs.{readJobInto, writeJob}
 use Rattle.measure.specs.Check.{checkOf}
-use Rattle.shelf.specs.declared.Answer.{Answer}
+use Rattle.checked.specs.declared.Answer.{Answer}
 use Rattle.shelf.specs.Shelf.{base, cleared}
 use Rattle.shelf.specs.Calls.{keep, fetch, forget, clear, after, said}
 use Rattle.house.specs.Proposal.{proposeOf}

@@ -25,15 +25,15 @@ use Rattle.jobs.proofs.Trips.{allowed-proposals-written, proposals-read-back}
 use Rattle.measure.specs.declared.check.Verdict.{Verdict}
 use Rattle.measure.specs.declared.check.Verdict.the-variants.{Accepted, Refused}
 use Rattle.measure.specs.Check.{onRead, proposalVerdict, checkOf}
-use Rattle.shelf.specs.declared.Slot.{Slot}
-use Rattle.shelf.specs.declared.Slot.the-variants.{At, Nowhere}
-use Rattle.shelf.specs.Slots.{Reply, refusal, headSize, valuesEnd, leastWords, lowest, hasJob, atSlot, overwritten}
-use Rattle.shelf.specs.Checked.{answerOf}
+use Rattle.slots.specs.declared.Slot.{Slot}
+use Rattle.slots.specs.declared.Slot.the-variants.{At, Nowhere}
+use Rattle.slots.specs.Slots.{headSize, valuesEnd, slotWords, lowest, hasJob, atSlot}
+use Rattle.checked.specs.Answers.{Reply, refusal, overwritten, answerOf}
 use Rattle.shelf.specs.Fetched.{mostValue, mostMultiplier, upTo, lowestAbove, orSix, proposalOf, verdictFor, keptVerdict, handed, sameCounts, fetchTable, keptCells, keptLinks, keptValues, keptMultipliers, fetchAt, fetchIn, onJob}
 use Rattle.shelf.specs.Shelf.{base, spanOf, fromWhole, fetchFrom, fetchReply}
 use Rattle.shelf.specs.Calls.{fetch, wholeSaid, said}
 use Rattle.shelf.proofs.Picked.{and-left, and-right}
-use Rattle.shelf.proofs.Sizes.{found-below, slot-within, slot-end}
+use Rattle.slots.proofs.Sizes.{found-below, slot-within, slot-end}
 use Rattle.shelf.proofs.Spans.{base-lawful, span-length}
 use Rattle.shelf.proofs.Judged.{signed-at, judged-given, all-allowed}
 use Rattle.bench.specs.Answers.{answerWords}
@@ -159,7 +159,7 @@ module _ (job : List ℕ) (k : ℕ) (reads : readJob job .outcome ≡ Done k) (r
       }
 
   -- a slot has the words that its counts ask for, where they are the job's
-  slot-behind : (x : List ℕ) → leastWords ≤ length x → Behind job (fetchAt its-job room x)
+  slot-behind : (x : List ℕ) → slotWords ≤ length x → Behind job (fetchAt its-job room x)
   unfolding fetchAt fetchTable
   slot-behind x h n = go (sameCounts its-job (keptCells x) (keptLinks x)) refl n
     where
@@ -178,7 +178,7 @@ module _ (job : List ℕ) (k : ℕ) (reads : readJob job .outcome ≡ Done k) (r
           m
       go false e m = absurd (omega (arith, m))
 
-  span-behind : (w c : ℕ) (s : List ℕ) → leastWords ≤ w → length s ≡ w * c → Behind job (fetchIn w c its-job room s)
+  span-behind : (w c : ℕ) (s : List ℕ) → slotWords ≤ w → length s ≡ w * c → Behind job (fetchIn w c its-job room s)
   unfolding fetchIn
   span-behind w c s wide len n = go (lowest (hasJob (its-job .number)) w c s) refl n
     where

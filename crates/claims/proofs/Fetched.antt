@@ -18,8 +18,8 @@ use Rattle.jobs.specs.Words.{wordAt}
 use Rattle.jobs.specs.Packs.{readJob}
 use Rattle.measure.specs.declared.check.Verdict.{Verdict}
 use Rattle.measure.specs.Check.{onRead, proposalVerdict, checkOf}
-use Rattle.shelf.specs.Slots.{Reply}
-use Rattle.shelf.specs.Checked.{Checked, checkedOf, accepted, valuesOf}
+use Rattle.checked.specs.Answers.{Reply, accepted}
+use Rattle.checked.specs.Checked.{Checked, checkedOf, valuesOf}
 use Rattle.shelf.specs.Fetched.{handed, sameCounts, onJob}
 use Rattle.shelf.specs.Shelf.{Layout, cleared}
 use Rattle.shelf.specs.Calls.{Call, keep, fetch, forget, clear, said}

@@ -7,11 +7,12 @@ use mathlib.Core.List.{List, [], _∷_}
 use lib.Dec.{eqb, leb}
 use lib.ListN.{length}
 use Rattle.numbers.specs.Choice.{if_then_else_}
-use Rattle.shelf.specs.declared.Slot.{Slot}
-use Rattle.shelf.specs.declared.Slot.the-variants.{At, Nowhere}
-use Rattle.shelf.specs.Slots.{Reply, refusal, done, lowest, hasJob, atSlot, forgetReply, overwritten}
-use Rattle.shelf.specs.Checked.{checkedOf}
-use Rattle.shelf.specs.Shelf.{Layout, base, spanOf, fromSociety, onWhole, fromWhole, keepReply, forgotReply, cleared}
+use Rattle.slots.specs.declared.Slot.{Slot}
+use Rattle.slots.specs.declared.Slot.the-variants.{At, Nowhere}
+use Rattle.slots.specs.Slots.{lowest, hasJob, atSlot}
+use Rattle.checked.specs.Answers.{Reply, refusal, done, overwritten}
+use Rattle.shelf.specs.Shelf.{forgetReply, Layout, base, spanOf, fromSociety, onWhole, fromWhole, keepReply, forgotReply, cleared}
+use Rattle.checked.specs.Checked.{checkedOf}
 use Rattle.shelf.specs.Calls.{Call, keep, fetch, forget, clear, named, names, namesOther, after, said}
 use Rattle.shelf.proofs.Spans.{Lawful}
 use Rattle.bench.specs.Answers.{hasFour, leftFor, Says}

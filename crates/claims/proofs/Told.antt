@@ -20,8 +20,8 @@ use Rattle.measure.specs.declared.check.Verdict.the-variants.{Accepted, Refused
 use Rattle.measure.specs.Loss.{familyOf, familyAcross, acrossAt, lossOf}
 use Rattle.measure.specs.Check.{checkOf}
 use Rattle.measure.proofs.Directions.{loss-at-most}
-use Rattle.shelf.specs.Slots.{Reply, refusal}
-use Rattle.shelf.specs.Checked.{checkedOf, accepted, answerOf}
+use Rattle.checked.specs.Answers.{Reply, refusal, accepted, answerOf}
+use Rattle.checked.specs.Checked.{checkedOf}
 use Rattle.shelf.specs.Fetched.{handed}
 use Rattle.shelf.specs.Shelf.{base, fromWhole, keepReply}
 use Rattle.shelf.specs.Calls.{keep, wholeSaid, said}

@@ -6,7 +6,7 @@ use mathlib.Core.Bool.{cond}
 use mathlib.Core.List.{List, [], _∷_}
 use lib.ListN.{length}
 use Rattle.numbers.specs.Choice.{if_then_else_}
-use Rattle.shelf.specs.Slots.{Reply, overwritten}
+use Rattle.checked.specs.Answers.{Reply, overwritten}
 use Rattle.shelf.specs.Calls.{Call, keep, fetch, forget, clear, names, namesOther}
 use Rattle.bench.specs.Answers.{hasFour, returnedFor, writtenFor, leftFor}
 use Rattle.bench.specs.Calls.{ShelfSays, FetchSays}

@@ -1,8 +1,8 @@
 /* bench.h: the bench, for the portal and any other C or C++ program.
  *
  * The bench reads a job (one society's table to be graduated: a line of ages, or a grid for a select table), checks a proposed table with its
- * multipliers, makes a proposal of its own, and keeps accepted tables on a shelf that the caller lends. Document 01 and, for grids, request W-205
- * have the rules; this page has what a caller needs.
+ * multipliers, makes a proposal of its own, and keeps accepted tables on a shelf that the caller lends. Document 01 has the rules, with request
+ * W-205 for grids and W-203 for a fetch that checks; this page has what a caller needs.
  *
  * WHAT EVERY CALL DOES
  *
@@ -30,19 +30,23 @@
  *          the order across
  *     5    cells of a link not rising, or coefficient 0            link
  *     6    proposal pack: unreadable, spare bytes, not allowed     offset, as for 1 and 2
+ *          fetch: a kept number not allowed                        its word within the slot: 7 + cell, or 127 + link
  *     7    value outside its box                                   lowest such cell
  *     8    link broken                                             lowest such link
  *     9    gap above the tolerance                                 0
  *     10   house proposal: data too thin                           cell
- *     11   fetch or forget: society above 7                        0
+ *     11   forget: society above 7                                 0
  *     12   fetch or forget: nothing kept under that number         0
- *     13   answer slice not 4 words, shelf not 4,032,              4, 4,032, or
+ *          fetch: what is kept has another count of cells
+ *          or links than the job
+ *     13   answer slice not 4 words, shelf not 9,184,              4, 9,184, or
  *          or output too short                                     the length needed, in the output's own elements
  *     20   house proposal: a grid of more than 12 columns          0
  *
  * The first that applies is given, in this order: answer slice, shelf length; then the job pack from its first byte to its last (1 and 2
- * for each number, 3 after each ceiling, 4 after the last cell, 5 after each term, spare bytes last); then 6, 7, 8, 9, or 20, 10; for fetch and
- * forget 11, then 12; and the output's length last. A wrong answer slice is not written to: only the returned number tells it.
+ * for each number, 3 after each ceiling, 4 after the last cell, 5 after each term, spare bytes last); then 6, 7, 8, 9, or for fetch 12, 6, 7, 8, 9,
+ * or for propose 20, 10; for forget, which takes no pack, 11, then 12; and the output's length last. A wrong answer slice is not written to: only
+ * the returned number tells it.
  *
  * PACKS
  *
@@ -66,7 +70,7 @@
  *
  * A grid's cells run along a row first: the cell of row r and column c is r times the columns plus c. Its loss adds k times the squared
  * differences of the order down, down the columns, and the second constant times those of the order across, along the rows; no difference
- * runs over a row's end. Links, boxes, check, keep and fetch know no rows: a grid is n cells there.
+ * runs over a row's end. Links, boxes and the shelf know no rows: a grid is n cells there.
  *
  * WHAT NOBODY CHECKS FOR A C CALLER
  *
@@ -74,8 +78,8 @@
  *   - Each count is true, and each pointer is aligned for its elements.
  *   - No two slices of one call overlap, unless the call only reads both. A pointer to const is only read.
  *   - BENCH_STACK_BYTES of stack are free, or for a job that is no grid BENCH_LINE_STACK_BYTES: a call puts its working room there. In
- *     bytes, as measured: check 20,592, keep 21,136, read 17,080, write 17,144; propose 29,128 for a line and 57,976 for a grid; fetch,
- *     forget and clear below 100.
+ *     bytes, as measured: check 20,752, keep 21,952, fetch 20,640, read 17,080, write 17,144; propose 29,128 for a line and 57,976 for a
+ *     grid; forget and clear below 100.
  *   - a call names the right society: every call acts for the society that its job pack or its argument names, whoever makes it.
  *
  * Calls may run at the same time on several threads as long as no slice that one of them writes is lent to another. Calls on different
@@ -108,13 +112,19 @@ extern "C" {
 
 /* Lengths that must be met exactly. */
 #define BENCH_ANSWER_WORDS 4   /* 64-bit words of an answer slice */
-#define BENCH_SHELF_WORDS 4032 /* 32-bit words of a shelf: 8 societies of 4 slots of 126 */
+#define BENCH_SHELF_WORDS 9184 /* 32-bit words of a shelf: 8 societies of 4 slots of 287 */
 
 /* The version of this page, which rises when a call, a number or a length changes.
  *   1  the eight calls
  *   2  select tables: order field 5 announces a grid, whose job has five numbers more (BENCH_MOST_JOB_WORDS, BENCH_MOST_JOB_BYTES);
- *      20 for a grid too wide for the house proposal; the stack of lines and of grids told apart */
-#define BENCH_VERSION 2
+ *      20 for a grid too wide for the house proposal; the stack of lines and of grids told apart
+ *   3  a fetch that checks: bench_fetch takes the job pack in place of society and job number, checks what is kept against it, and so gives 1 to 9
+ *      too and never 11; a slot has 287 words, with the link count and the multipliers, so BENCH_SHELF_WORDS is 9,184
+ *
+ * Moving from version 2: a shelf of version 2 has 4,032 words and no multipliers, so nothing on it could be checked. No call takes it (13) or
+ * turns it into a shelf of version 3. Lend 9,184 words, clear them with bench_clear, and keep each table again from its job pack and proposal
+ * pack. Wherever the portal fetches, it hands in the job pack that it has of the society today. */
+#define BENCH_VERSION 3
 
 /* No call needs more stack than this, and none on a job that is no grid more than the second. */
 #define BENCH_STACK_BYTES 65536
@@ -169,19 +179,25 @@ uint64_t bench_propose(const uint8_t *job, size_t job_bytes, uint8_t *out, size_
                        uint64_t *answer, size_t answer_words);
 
 /* Checks as bench_check does and, if it accepts, keeps the table on the shelf among its society's four: in the slot that has the job
- * already, else in the lowest empty one, else slot 0's table goes and the others move down by one. Done: F and G as in the check, place 0.
- * It never reads or writes another society's words. A shelf may hold any words, but only one that was cleared first holds lists that mean
- * something. Numbers: 0 to 9, 13. */
+ * already, else in the lowest empty one, else slot 0's table goes and the others move down by one. The multipliers are kept with the values, and
+ * F and G too. Done: F and G as in the check, place 0. It never reads or writes another society's words. A shelf may hold any words, but only one
+ * that was cleared first holds lists that mean something. Numbers: 0 to 9, 13. */
 uint64_t bench_keep(uint32_t *shelf, size_t shelf_words, const uint8_t *job, size_t job_bytes,
                     const uint8_t *proposal, size_t proposal_bytes, uint64_t *answer, size_t answer_words);
 
-/* Copies to `out` the values that a society keeps under a job number. Done: the place is the count of values n, F and G are those that the
- * table was kept with, and words of `out` beyond n stay as they were. Never writes to the shelf. Numbers: 0, 11, 12, 13. */
-uint64_t bench_fetch(const uint32_t *shelf, size_t shelf_words, uint32_t society, uint32_t job,
+/* Takes a job, finds what its society keeps under its number (in the lowest slot, if several have it), and checks the kept values and multipliers
+ * against this job, as bench_check would check a proposal of them. So a job that was corrected after its table was kept gets that table only if
+ * it still passes. Done: the kept values stand in `out`, the place is their count n, and words of `out` beyond n stay as they were; F and G are those
+ * of this check, not those that the table was kept with, and no table that meets the job, fractional ones included, has a loss below F - G.
+ * 12 if nothing is kept under the number, or if what is kept has another n or another count of links; then 6 for a kept number that is not
+ * allowed, which a shelf that was cleared first and then written by these calls alone never has; then 7, 8, 9 as at the check. Only the counts are
+ * compared: a table that was kept for a line is checked for a grid of as many cells and links as well. Never writes to the shelf: a table that is
+ * refused stays there. Numbers: 0 to 9, 12, 13. */
+uint64_t bench_fetch(const uint32_t *shelf, size_t shelf_words, const uint8_t *job, size_t job_bytes,
                      uint32_t *out, size_t out_words, uint64_t *answer, size_t answer_words);
 
-/* Removes the table that a society keeps under a job number; its later tables move down by one slot. Done: place 0. Numbers: 0, 11, 12,
- * 13. */
+/* Removes the table that a society keeps under a job number, whatever its counts; its later tables move down by one slot. Done: place 0. Numbers:
+ * 0, 11, 12, 13. */
 uint64_t bench_forget(uint32_t *shelf, size_t shelf_words, uint32_t society, uint32_t job,
                       uint64_t *answer, size_t answer_words);
 

@@ -38,7 +38,7 @@ static uint64_t on_bench(enum function function)
     case CHECK: return bench_check(job.at, job.count, proposal.at, proposal.count, answer, ANSWER_WORDS);
     case PROPOSE: return bench_propose(job.at, job.count, byte_room, sizeof byte_room, answer, ANSWER_WORDS);
     case KEEP: return bench_keep(shelf, SHELF_WORDS, job.at, job.count, proposal.at, proposal.count, answer, ANSWER_WORDS);
-    case FETCH: return bench_fetch(shelf, SHELF_WORDS, society, number, values, MOST_CELLS, answer, ANSWER_WORDS);
+    case FETCH: return bench_fetch(shelf, SHELF_WORDS, job.at, job.count, values, MOST_CELLS, answer, ANSWER_WORDS);
     case FORGET: return put_back(), bench_forget(shelf, SHELF_WORDS, society, number, answer, ANSWER_WORDS);
     case CLEAR: return bench_clear(shelf, SHELF_WORDS, answer, ANSWER_WORDS);
     case READ: return bench_read(job.at, job.count, word_room, BENCH_MOST_JOB_WORDS, answer, ANSWER_WORDS);
@@ -53,7 +53,7 @@ static uint64_t on_twin(enum function function)
     case CHECK: return twin_check(job.at, job.count, proposal.at, proposal.count, answer, ANSWER_WORDS);
     case PROPOSE: return twin_propose(job.at, job.count, byte_room, sizeof byte_room, answer, ANSWER_WORDS);
     case KEEP: return twin_keep(shelf, SHELF_WORDS, job.at, job.count, proposal.at, proposal.count, answer, ANSWER_WORDS);
-    case FETCH: return twin_fetch(shelf, SHELF_WORDS, society, number, values, MOST_CELLS, answer, ANSWER_WORDS);
+    case FETCH: return twin_fetch(shelf, SHELF_WORDS, job.at, job.count, values, MOST_CELLS, answer, ANSWER_WORDS);
     case FORGET: return put_back(), twin_forget(shelf, SHELF_WORDS, society, number, answer, ANSWER_WORDS);
     case CLEAR: return twin_clear(shelf, SHELF_WORDS, answer, ANSWER_WORDS);
     case READ: return twin_read(job.at, job.count, word_room, BENCH_MOST_JOB_WORDS, answer, ANSWER_WORDS);

@@ -1,8 +1,9 @@
 /* The bench against the twin: random calls with the same memory, compared in what they return and in every lent byte.
  * Arguments: the seed, the count of calls, and `end` or `start` if slices shall lie flush against a page that nobody may touch.
- * It ends with 1 at the first mismatch, or if some number that a call can give was never given. */
+ * It ends with 1 at the first mismatch, or if a call never ended in some number that it can give, or of 13 in one of the lengths. */
 #define _POSIX_C_SOURCE 200809L
 #include "calls.h"
+#include "../../include/bench.h"
 #include "scenes.h"
 
 #include <inttypes.h>
@@ -11,45 +12,66 @@
 #include <stdlib.h>
 #include <string.h>
 
-enum { NUMBERS = 32, SHAPES = 2 };
+enum { SHAPES = 2 };
 
-/* How often each call gave each number, for lines and for grids. Calls without a job stand with the lines. */
-static uint64_t tally[SHAPES][FUNCTIONS][NUMBERS];
+/* What a call can end in: a number, or of 13 what it was for, since each of the three lengths has a test of its own. */
+enum outcome { WRONG_ANSWER = 13, WRONG_SHELF = 32, SHORT_ROOM, OUTCOMES };
 
-/* The numbers that each call can give, as bits. */
-static const unsigned PACK = 0x3F, ROOM = 1u << 13;
-static unsigned possible(int shape, int function)
+/* How often each call ended in each outcome, for lines and for grids. Calls without a job stand with the lines. */
+static uint64_t tally[SHAPES][FUNCTIONS][OUTCOMES];
+
+static enum outcome outcome_of(const struct call *c, uint64_t said)
 {
+    bool has_shelf = c->function >= KEEP && c->function <= CLEAR;
+    if (BENCH_NUMBER(said) != BENCH_WRONG_LENGTH)
+        return (enum outcome)BENCH_NUMBER(said);
+    if (c->slice[c->slices - 1].count != BENCH_ANSWER_WORDS)
+        return WRONG_ANSWER;
+    return has_shelf && c->slice[0].count != BENCH_SHELF_WORDS ? WRONG_SHELF : SHORT_ROOM;
+}
+
+/* The outcomes that each call can have, as bits. A fetch never gives 11. */
+static uint64_t bit(int outcome) { return (uint64_t)1 << outcome; }
+static uint64_t possible(int shape, int function)
+{
+    const uint64_t pack = 0x3F, check = 0x3FF, answer = bit(WRONG_ANSWER), shelf = bit(WRONG_SHELF), room = bit(SHORT_ROOM);
     bool grid = shape == 1;
     switch (function) {
-    case CHECK:
-    case KEEP: return 0x3FF | ROOM;
-    case PROPOSE: return PACK | 1u << 10 | ROOM | (grid ? 1u << 20 : 0);
-    case FETCH:
-    case FORGET: return grid ? 0 : 1u | 1u << 11 | 1u << 12 | ROOM;
-    case CLEAR: return grid ? 0 : 1u | ROOM;
-    default: return PACK | ROOM;
+    case CHECK: return check | answer;
+    case KEEP: return check | answer | shelf;
+    case PROPOSE: return pack | bit(10) | answer | room | (grid ? bit(20) : 0);
+    case FETCH: return check | bit(12) | answer | shelf | room;
+    case FORGET: return grid ? 0 : bit(0) | bit(11) | bit(12) | answer | shelf;
+    case CLEAR: return grid ? 0 : bit(0) | answer | shelf;
+    default: return pack | answer | room;
     }
 }
 
-/* Whether some call can give the number: only those have a column. */
-static bool is_given(int number)
+/* Whether some call can end so: only those outcomes have a column. */
+static bool is_given(int outcome)
 {
-    unsigned all = 0;
+    uint64_t all = 0;
     for (int f = 0; f < FUNCTIONS; f++)
         all |= possible(1, f) | possible(0, f);
-    return all >> number & 1;
+    return all >> outcome & 1;
+}
+
+static const char *outcome_name(int outcome)
+{
+    static char name[16];
+    snprintf(name, sizeof name, "%d", outcome);
+    return outcome == WRONG_ANSWER ? "13 ans" : outcome == WRONG_SHELF ? "13 shf" : outcome == SHORT_ROOM ? "13 out" : name;
 }
 
 static void print_row(int shape, int function)
 {
     uint64_t calls = 0;
     printf("%-8s", call_names[function]);
-    for (int number = 0; number < NUMBERS; number++) {
-        calls += tally[shape][function][number];
-        if (possible(shape, function) >> number & 1)
-            printf("%7" PRIu64, tally[shape][function][number]);
-        else if (is_given(number))
+    for (int outcome = 0; outcome < OUTCOMES; outcome++) {
+        calls += tally[shape][function][outcome];
+        if (possible(shape, function) >> outcome & 1)
+            printf("%7" PRIu64, tally[shape][function][outcome]);
+        else if (is_given(outcome))
             printf("%7s", "-");
     }
     printf("%9" PRIu64 "\n", calls);
@@ -58,24 +80,24 @@ static void print_row(int shape, int function)
 static void print_tally(int shape)
 {
     printf("%-8s", shape == 1 ? "grids" : "lines");
-    for (int number = 0; number < NUMBERS; number++)
-        if (is_given(number))
-            printf("%7d", number);
+    for (int outcome = 0; outcome < OUTCOMES; outcome++)
+        if (is_given(outcome))
+            printf("%7s", outcome_name(outcome));
     printf("%9s\n", "calls");
     for (int f = 0; f < FUNCTIONS; f++)
         if (possible(shape, f) != 0)
             print_row(shape, f);
 }
 
-/* Every possible number was given, and no other. A damaged order field makes no wide grid of a line: its pack lacks a grid's five numbers. */
+/* Every possible outcome was had, and no other. A damaged order field makes no wide grid of a line: its pack lacks a grid's five numbers. */
 static int judge_tally(int shape)
 {
     int wrong = 0;
     for (int f = 0; f < FUNCTIONS; f++)
-        for (int number = 0; number < NUMBERS; number++) {
-            bool can = possible(shape, f) >> number & 1;
-            if (can != (tally[shape][f][number] > 0)) {
-                printf("FAILED  %s of %s %s number %d\n", call_names[f], shape == 1 ? "grids" : "lines", can ? "never gave" : "gave", number);
+        for (int outcome = 0; outcome < OUTCOMES; outcome++) {
+            bool can = possible(shape, f) >> outcome & 1;
+            if (can != (tally[shape][f][outcome] > 0)) {
+                printf("FAILED  %s of %s %s %s\n", call_names[f], shape == 1 ? "grids" : "lines", can ? "never gave" : "gave", outcome_name(outcome));
                 wrong = 1;
             }
         }
@@ -112,8 +134,8 @@ static int run(uint64_t count)
             mismatch(wrong);
             return 1;
         }
-        tally[call.grid][call.function][said[0] % 32]++;
-        scene_shelf(&call, lent_at(0, 0, &call.slice[0]));
+        tally[call.grid][call.function][outcome_of(&call, said[0])]++;
+        scene_shelf(&call, said[0], lent_at(0, 0, &call.slice[0]));
     }
     print_tally(0);
     print_tally(1);

@@ -7,7 +7,6 @@
 #include <string.h>
 
 static const int64_t MOST_TOLERANCE = 1000000000000000;
-static const int64_t MOST_VALUE = 1000000;
 
 static int64_t smaller(int64_t a, int64_t b) { return a < b ? a : b; }
 static int64_t larger(int64_t a, int64_t b) { return a > b ? a : b; }
@@ -45,7 +44,7 @@ static void draw_box(struct random *r, int64_t scale, int style, int64_t u, int6
 /* Crude rates, weights and boxes of one scale and style, with cells of other styles among them. */
 static void draw_cells(struct random *r, struct twin_job *job)
 {
-    static const int64_t scales[] = {3, 30, 1000, 1000000};
+    static const int64_t scales[] = {3, 30, 1000, MOST_VALUE};
     static const int64_t weights[] = {1, 4, 1000};
     int64_t scale = scales[random_below(r, 4)], most_weight = weights[random_below(r, 3)];
     int style = (int)random_below(r, 5);
@@ -79,7 +78,7 @@ static void plant_table(struct random *r, struct draft *d)
     }
 }
 
-static int64_t sum_of(const struct twin_link *link, const struct twin_table *table)
+int64_t draft_sum(const struct twin_link *link, const struct twin_table *table)
 {
     int64_t sum = 0;
     for (int64_t t = 0; t < link->terms; t++)
@@ -104,8 +103,8 @@ static void draw_terms(struct random *r, int64_t cells, int64_t terms, struct tw
 /* Bound and multiplier of a link: mostly tight, and with room only seldom a large multiplier. */
 static void draw_bound(struct random *r, struct twin_link *link, const struct twin_table *table, int style, int64_t *multiplier)
 {
-    static const int64_t most[] = {1, 5, 1000, 1000000000};
-    int64_t sum = sum_of(link, table);
+    static const int64_t most[] = {1, 5, 1000, MOST_MULTIPLIER};
+    int64_t sum = draft_sum(link, table);
     int64_t slack = random_chance(r, 65) ? 0 : random_chance(r, 60) ? random_between(r, 1, 9) : random_between(r, 0, 1000000000 - sum);
     link->bound = sum + slack;
     *multiplier = random_below(r, most[style] + 1);
@@ -141,9 +140,9 @@ static void close_boxes(struct random *r, struct draft *d, int percent)
     }
 }
 
-/* The tolerance: the gap, one off, or any other. */
-static void settle_tolerance(struct random *r, struct draft *d)
+void draft_settle(struct random *r, struct draft *d)
 {
+    d->job.tolerance = MOST_TOLERANCE;
     struct twin_answer a = twin_judge(&d->job, &d->table);
     int64_t gap = a.number == 0 ? (int64_t)a.gap : MOST_TOLERANCE;
     int64_t way = random_below(r, 10);
@@ -189,7 +188,7 @@ void draft_make(struct random *r, struct draft *d)
         if (kind >= 18 && kind <= 92)
             close_boxes(r, d, kind == 18 || random_chance(r, 50) ? 100 : random_chance(r, 50) ? 90 : 20);
     }
-    settle_tolerance(r, d);
+    draft_settle(r, d);
 }
 
 /* Numbers for the header that is drawn: as many bytes as they can have, and a table that is accepted. */
@@ -197,7 +196,7 @@ static void fill_draft(struct random *r, struct draft *d)
 {
     struct twin_job *job = &d->job;
     for (int64_t i = 0; i < job->cells; i++) {
-        job->u[i] = random_between(r, 100000, 1000000);
+        job->u[i] = random_between(r, 100000, MOST_VALUE);
         job->w[i] = random_between(r, 128, 1000);
         job->lo[i] = random_between(r, 0, 20000);
         job->hi[i] = MOST_VALUE;
@@ -205,8 +204,8 @@ static void fill_draft(struct random *r, struct draft *d)
     twin_house(job, d->table.value);
     draw_links(r, d, MOST_LINKS, MOST_TERMS);
     for (int64_t l = 0; l < job->links; l++) {
-        job->link[l].bound = sum_of(&job->link[l], &d->table);
-        d->table.multiplier[l] = random_between(r, 0, 1000000000);
+        job->link[l].bound = draft_sum(&job->link[l], &d->table);
+        d->table.multiplier[l] = random_between(r, 0, MOST_MULTIPLIER);
     }
     close_boxes(r, d, 100);
 }
@@ -255,7 +254,7 @@ static void break_link(struct random *r, struct draft *d, int way)
     if (way == 5 && random_chance(r, 30))
         link->coefficient[t] = random_chance(r, 50) ? 11 : -11;
     if (way == 6)
-        link->bound = sum_of(link, &d->table) - (random_chance(r, 60) ? 1 : random_between(r, 1, 100000));
+        link->bound = draft_sum(link, &d->table) - (random_chance(r, 60) ? 1 : random_between(r, 1, 100000));
 }
 
 void draft_break(struct random *r, struct draft *d)

@@ -19,6 +19,12 @@ void draft_full(struct random *r, int64_t order_field, struct draft *draft);
 /* The same of a grid of so many columns and these orders. */
 void draft_full_grid(struct random *r, int64_t columns, int64_t down, int64_t across, struct draft *draft);
 
+/* Sets the tolerance: the gap of the draft's table, one off, any other, or the largest. */
+void draft_settle(struct random *r, struct draft *draft);
+
+/* A link's sum over a table's values. */
+int64_t draft_sum(const struct twin_link *link, const struct twin_table *table);
+
 /* Breaks one rule that is about more than one number: refusals 3, 4, 5, 7, 8 or 9, where the draft has room for it, and 2 of a grid. */
 void draft_break(struct random *r, struct draft *draft);
 

@@ -3,7 +3,6 @@
 #include "grids.h"
 #include "shapes.h"
 
-static const int64_t MOST_VALUE = 1000000;
 static const int64_t MOST_BOUND = 1000000000;
 
 static void add_link(struct draft *d, int64_t cell, int64_t coefficient, int64_t bound, int64_t multiplier)

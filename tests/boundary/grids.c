@@ -2,8 +2,6 @@
 #include "grids.h"
 #include "shapes.h"
 
-static const int64_t MOST_VALUE = 1000000;
-
 static int64_t smaller(int64_t a, int64_t b) { return a < b ? a : b; }
 
 static void draw_constants(struct random *r, struct twin_job *job, int64_t total)

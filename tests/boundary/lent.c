@@ -8,7 +8,7 @@
 #include <sys/mman.h>
 #include <unistd.h>
 
-enum { LEAST_ROOM = 32768, GUARD_BYTES = 64, GUARD = 0xA5 };
+enum { LEAST_ROOM = 40960, GUARD_BYTES = 64, GUARD = 0xA5 };
 
 static uint8_t *region[SIDES][MOST_SLICES];
 static size_t room;

@@ -40,10 +40,10 @@ void numbers_of_job(const struct twin_job *job, struct numbers *list)
     add(list, job->tolerance, 0, 1000000000000000, false);
     list->head = list->count;
     for (int64_t i = 0; i < job->cells; i++) {
-        add(list, job->u[i], 0, 1000000, false);
+        add(list, job->u[i], 0, MOST_VALUE, false);
         add(list, job->w[i], 0, 1000, false);
-        add(list, job->lo[i], 0, 1000000, false);
-        add(list, job->hi[i], 0, 1000000, false);
+        add(list, job->lo[i], 0, MOST_VALUE, false);
+        add(list, job->hi[i], 0, MOST_VALUE, false);
     }
     add(list, job->links, 0, 160, false);
     for (int64_t l = 0; l < job->links; l++) {
@@ -62,9 +62,9 @@ void numbers_of_proposal(const struct draft *d, struct numbers *list)
     list->count = 0;
     list->head = 6;
     for (int64_t i = 0; i < d->job.cells; i++)
-        add(list, d->table.value[i], 0, 1000000, false);
+        add(list, d->table.value[i], 0, MOST_VALUE, false);
     for (int64_t l = 0; l < d->job.links; l++)
-        add(list, d->table.multiplier[l], 0, 1000000000, false);
+        add(list, d->table.multiplier[l], 0, MOST_MULTIPLIER, false);
 }
 
 /* A number's groups, at least `least` of them: more than it needs make an overlong form. */

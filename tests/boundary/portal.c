@@ -5,8 +5,8 @@
 #include <stdio.h>
 #include <string.h>
 
-/* Select tables came with version 2. */
-#if BENCH_VERSION < 2
+/* A fetch by the job pack came with version 3. */
+#if BENCH_VERSION < 3
 #error "include/bench.h is older than this caller"
 #endif
 
@@ -56,14 +56,19 @@ static uint64_t keep(const uint8_t *job, size_t job_bytes, const uint8_t *propos
     return bench_keep(shelf, BENCH_SHELF_WORDS, job, job_bytes, proposal, proposal_bytes, answer, BENCH_ANSWER_WORDS);
 }
 
-static uint64_t fetch(uint32_t society, uint32_t job, uint32_t *out, size_t words)
+static uint64_t fetch(const uint8_t *job, size_t job_bytes, uint32_t *out, size_t words)
 {
-    return bench_fetch(shelf, BENCH_SHELF_WORDS, society, job, out, words, answer, BENCH_ANSWER_WORDS);
+    return bench_fetch(shelf, BENCH_SHELF_WORDS, job, job_bytes, out, words, answer, BENCH_ANSWER_WORDS);
 }
 
 static uint64_t forget(uint32_t society, uint32_t job)
 {
     return bench_forget(shelf, BENCH_SHELF_WORDS, society, job, answer, BENCH_ANSWER_WORDS);
+}
+
+static void clear(void)
+{
+    bench_clear(shelf, BENCH_SHELF_WORDS, answer, BENCH_ANSWER_WORDS);
 }
 
 static void checks(void)
@@ -80,6 +85,7 @@ static void checks(void)
 
 static void shelf_is_kept(void)
 {
+    uint8_t other[sizeof JOB];
     uint32_t out[5] = {9, 9, 9, 9, 9};
     uint32_t sum = 0;
     memset(shelf, 0xFF, sizeof shelf);
@@ -88,24 +94,36 @@ static void shelf_is_kept(void)
         sum |= shelf[i];
     expect(sum == 0, "clearing sets every word to 0");
     expect_answer(keep(JOB, sizeof JOB, PROPOSAL, 3), BENCH_DONE, 0, 28, 0, "keep");
-    expect_answer(fetch(3, 7, out, 5), BENCH_DONE, 3, 28, 0, "fetch gives the count of values, F and G");
+    expect_answer(fetch(JOB, sizeof JOB, out, 5), BENCH_DONE, 3, 28, 0, "fetch gives the count of values, F and G");
     expect(out[0] == 2 && out[1] == 3 && out[2] == 2 && out[3] == 9 && out[4] == 9, "fetch writes three values and no more");
-    expect_answer(fetch(2, 7, out, 5), BENCH_NOTHING_KEPT, 0, 0, 0, "another society has no such table");
+    memcpy(other, JOB, sizeof JOB);
+    other[0] = 2;
+    expect_answer(fetch(other, sizeof other, out, 5), BENCH_NOTHING_KEPT, 0, 0, 0, "another society has no such table");
     expect_answer(forget(3, 7), BENCH_DONE, 0, 0, 0, "forget");
-    expect_answer(fetch(3, 7, out, 5), BENCH_NOTHING_KEPT, 0, 0, 0, "what is forgotten cannot be fetched");
+    expect_answer(fetch(JOB, sizeof JOB, out, 5), BENCH_NOTHING_KEPT, 0, 0, 0, "what is forgotten cannot be fetched");
     sum = 0;
     for (size_t i = 0; i < BENCH_SHELF_WORDS; i++)
         sum |= shelf[i];
     expect(sum == 0, "forgetting the only table leaves a cleared shelf");
 }
 
-/* A fifth table pushes out the oldest of its society, and a neighbour's stays. */
-static void shelf_is_full(void)
+/* The worked example's job under another society and number. */
+static uint64_t fetch_named(uint8_t society, uint8_t number)
 {
     uint8_t job[sizeof JOB];
     uint32_t out[3];
     memcpy(job, JOB, sizeof JOB);
-    bench_clear(shelf, BENCH_SHELF_WORDS, answer, BENCH_ANSWER_WORDS);
+    job[0] = society;
+    job[1] = number;
+    return fetch(job, sizeof job, out, 3);
+}
+
+/* A fifth table pushes out the oldest of its society, and a neighbour's stays. */
+static void shelf_is_full(void)
+{
+    uint8_t job[sizeof JOB];
+    memcpy(job, JOB, sizeof JOB);
+    clear();
     for (uint8_t number = 0; number < 5; number++) {
         job[0] = 5;
         job[1] = number;
@@ -114,10 +132,10 @@ static void shelf_is_full(void)
         job[1] = 0;
         keep(job, sizeof job, PROPOSAL, 3);
     }
-    expect_answer(fetch(5, 0, out, 3), BENCH_NOTHING_KEPT, 0, 0, 0, "the oldest is gone");
-    expect_answer(fetch(5, 1, out, 3), BENCH_DONE, 3, 28, 0, "the second oldest is there");
-    expect_answer(fetch(5, 4, out, 3), BENCH_DONE, 3, 28, 0, "the newest is there");
-    expect_answer(fetch(6, 0, out, 3), BENCH_DONE, 3, 28, 0, "the neighbour's is there");
+    expect_answer(fetch_named(5, 0), BENCH_NOTHING_KEPT, 0, 0, 0, "the oldest is gone");
+    expect_answer(fetch_named(5, 1), BENCH_DONE, 3, 28, 0, "the second oldest is there");
+    expect_answer(fetch_named(5, 4), BENCH_DONE, 3, 28, 0, "the newest is there");
+    expect_answer(fetch_named(6, 0), BENCH_DONE, 3, 28, 0, "the neighbour's is there");
 }
 
 static void proposals(void)
@@ -162,10 +180,151 @@ static void select_table(void)
     expect_answer(said, BENCH_DONE, 4, 0, 0, "a select table is proposed");
     expect(memcmp(out, SELECT_PROPOSAL, 4) == 0 && out[4] == 0xEE, "the house proposal is 9 7 and 8 8");
     expect_answer(check(SELECT, sizeof SELECT, out, 4), BENCH_DONE, 0, 62, 0, "a select table is accepted");
-    bench_clear(shelf, BENCH_SHELF_WORDS, answer, BENCH_ANSWER_WORDS);
+    clear();
     expect_answer(keep(SELECT, sizeof SELECT, out, 4), BENCH_DONE, 0, 62, 0, "a select table is kept");
-    expect_answer(fetch(3, 8, values, BENCH_MOST_VALUES), BENCH_DONE, 4, 62, 0, "a select table is fetched");
+    expect_answer(fetch(SELECT, sizeof SELECT, values, BENCH_MOST_VALUES), BENCH_DONE, 4, 62, 0, "a select table is fetched");
     expect(values[0] == 9 && values[1] == 7 && values[2] == 8 && values[3] == 8, "row by row");
+}
+
+/* The words of a slot: n, job, F and G in two words each, the count of links; then the values, then the multipliers. */
+enum { SLOT_WORDS = 287, AT_LINKS = 6, AT_VALUES = 7, AT_MULTIPLIERS = 127 };
+
+static size_t slot_at(size_t society, size_t slot)
+{
+    return (4 * society + slot) * SLOT_WORDS;
+}
+
+/* LINKED with the table 2 2 1 and the multipliers 2 0, of which document 01 gives F 15 and G 0. */
+static void keep_linked(void)
+{
+    const uint8_t proposal[] = {2, 2, 1, 2, 0};
+    clear();
+    expect_answer(keep(LINKED, sizeof LINKED, proposal, 5), BENCH_DONE, 0, 15, 0, "a table with multipliers is kept");
+}
+
+static void slot_words(void)
+{
+    uint32_t expected[SLOT_WORDS] = {3, 7, 15, 0, 0, 0, 2, 2, 2, 1};
+    uint32_t sum = 0;
+    keep_linked();
+    expected[AT_MULTIPLIERS] = 2;
+    expect(memcmp(shelf + slot_at(3, 0), expected, sizeof expected) == 0, "the words of a slot");
+    memset(shelf + slot_at(3, 0), 0, sizeof expected);
+    for (size_t i = 0; i < BENCH_SHELF_WORDS; i++)
+        sum |= shelf[i];
+    expect(sum == 0, "keep writes to one slot alone");
+}
+
+/* Fetches with a copy of the pack in which one byte is mended. */
+static uint64_t fetch_mended(const uint8_t *job, size_t bytes, size_t at, uint8_t to, uint32_t *out, size_t words)
+{
+    uint8_t pack[64];
+    memcpy(pack, job, bytes);
+    pack[at] = to;
+    return fetch(pack, bytes, out, words);
+}
+
+/* The society mends two exposures of the worked example: weights 2 in cells 0 and 2. For 2 3 2 the residuals are then 4 0 4, whose terms are 2 each:
+ * F = 2*4 + 16 + 2*4 + 4 = 36, G = 4. */
+static void corrected_job(void)
+{
+    uint8_t job[sizeof JOB];
+    uint32_t out[5] = {9, 9, 9, 9, 9};
+    clear();
+    keep(JOB, sizeof JOB, PROPOSAL, 3);
+    memcpy(job, JOB, sizeof JOB);
+    job[7] = job[15] = 2;
+    expect_answer(fetch(job, sizeof job, out, 0), BENCH_GAP_ABOVE_TOLERANCE, 0, 0, 0, "a corrected job does not fetch last week's table");
+    job[5] = 3;
+    expect_answer(fetch(job, sizeof job, out, 5), BENCH_GAP_ABOVE_TOLERANCE, 0, 0, 0, "nor with a tolerance one too small");
+    expect(out[0] == 9 && out[1] == 9 && out[2] == 9, "and nothing of it is written");
+    job[5] = 4;
+    expect_answer(fetch(job, sizeof job, out, 2), BENCH_WRONG_LENGTH, 3, 0, 0, "room is asked for once the table is accepted");
+    expect_answer(fetch(job, sizeof job, out, 4), BENCH_DONE, 3, 36, 4, "with tolerance 4 it does, with other F and G");
+    expect(out[0] == 2 && out[1] == 3 && out[2] == 2 && out[3] == 9 && out[4] == 9, "the kept values and no more");
+    expect_answer(check(job, sizeof job, PROPOSAL, 3), BENCH_DONE, 0, 36, 4, "the check gives the same F and G");
+    expect_answer(fetch(JOB, sizeof JOB, out, 3), BENCH_DONE, 3, 28, 0, "the job as it was still fetches");
+    expect_answer(fetch_mended(JOB, sizeof JOB, 13, 2, out, 3), BENCH_OUTSIDE_BOX, 1, 0, 0, "ceiling 2 in cell 1");
+    expect_answer(fetch_mended(JOB, sizeof JOB, 16, 3, out, 3), BENCH_OUTSIDE_BOX, 2, 0, 0, "floor 3 in cell 2");
+    expect_answer(forget(3, 7), BENCH_DONE, 0, 0, 0, "a table that was refused can be forgotten");
+}
+
+/* With room 1 at link 0 its multiplier 2 adds 2 to the gap; the residuals stay 0. */
+static void corrected_links(void)
+{
+    uint32_t out[3];
+    keep_linked();
+    expect_answer(fetch(LINKED, sizeof LINKED, out, 3), BENCH_DONE, 3, 15, 0, "the multipliers are kept");
+    expect_answer(fetch_mended(LINKED, sizeof LINKED, 24, 2, out, 3), BENCH_DONE, 3, 15, 2, "a bound of 1 for link 0");
+    expect_answer(fetch_mended(LINKED, sizeof LINKED, 24, 1, out, 3), BENCH_LINK_BROKEN, 0, 0, 0, "a bound of -1 for link 0");
+    expect_answer(fetch_mended(LINKED, sizeof LINKED, 28, 0, out, 3), BENCH_LINK_BROKEN, 1, 0, 0, "a bound of 0 for link 1");
+    expect_answer(fetch(JOB, sizeof JOB, out, 3), BENCH_NOTHING_KEPT, 0, 0, 0, "the same job without links");
+    clear();
+    keep(JOB, sizeof JOB, PROPOSAL, 3);
+    expect_answer(fetch(LINKED, sizeof LINKED, out, 3), BENCH_NOTHING_KEPT, 0, 0, 0, "the same job with links");
+}
+
+/* SELECT's cells as a line of order 1 and tolerance 18. The differences of 9 7 8 8 are -2 1 0, the residuals -6 4 4 -2: F = 52 + 5 = 57 and
+ * G = 9 + 4 + 4 + 1 = 18. */
+static void line_and_grid(void)
+{
+    const uint8_t line[] = {3, 8, 4, 1, 1, 18, 14, 1, 0, 100, 2, 1, 0, 100, 7, 1, 0, 100, 9, 1, 0, 100, 0};
+    const uint8_t longer[] = {3, 8, 5, 1, 1, 18, 14, 1, 0, 100, 2, 1, 0, 100, 7, 1, 0, 100, 9, 1, 0, 100, 9, 1, 0, 100, 0};
+    uint32_t out[5];
+    clear();
+    expect_answer(keep(line, sizeof line, SELECT_PROPOSAL, 4), BENCH_DONE, 0, 57, 18, "a line is kept");
+    expect_answer(fetch(SELECT, sizeof SELECT, out, 4), BENCH_DONE, 4, 62, 0, "and fetched for a grid of as many cells");
+    expect_answer(fetch_mended(line, sizeof line, 5, 17, out, 4), BENCH_GAP_ABOVE_TOLERANCE, 0, 0, 0, "the line with tolerance 17");
+    expect_answer(fetch(longer, sizeof longer, out, 5), BENCH_NOTHING_KEPT, 0, 0, 0, "a line of one cell more");
+    keep(SELECT, sizeof SELECT, SELECT_PROPOSAL, 4);
+    expect_answer(fetch(line, sizeof line, out, 4), BENCH_DONE, 4, 57, 18, "a grid is fetched for a line");
+    expect_answer(fetch_mended(SELECT, sizeof SELECT, 9, 2, out, 4), BENCH_GAP_ABOVE_TOLERANCE, 0, 0, 0, "the grid with constant 2");
+}
+
+/* One word of LINKED's slot is spoilt, and put back after the fetch. */
+static void spoilt_words(void)
+{
+    static const struct { const char *what; size_t word; uint32_t to; uint64_t number, place, loss, gap; } cases[] = {
+        {"a kept value of 1,000,001 in cell 1", AT_VALUES + 1, 1000001, BENCH_BAD_PROPOSAL, 8, 0, 0},
+        {"a kept value of 1,000,000 in cell 1", AT_VALUES + 1, 1000000, BENCH_OUTSIDE_BOX, 1, 0, 0},
+        {"a kept multiplier of 10^9 + 1 at link 0", AT_MULTIPLIERS, 1000000001, BENCH_BAD_PROPOSAL, 127, 0, 0},
+        {"a kept multiplier of 10^9 + 1 at link 1", AT_MULTIPLIERS + 1, 1000000001, BENCH_BAD_PROPOSAL, 128, 0, 0},
+        {"a kept multiplier of 10^9 at link 1", AT_MULTIPLIERS + 1, 1000000000, BENCH_GAP_ABOVE_TOLERANCE, 0, 0, 0},
+        {"a kept multiplier of 0 at link 0", AT_MULTIPLIERS, 0, BENCH_DONE, 3, 15, 2},
+        {"a value that no cell has", AT_VALUES + 3, 4294967295, BENCH_DONE, 3, 15, 0},
+        {"a multiplier that no link has", AT_MULTIPLIERS + 2, 4294967295, BENCH_DONE, 3, 15, 0},
+        {"another kept loss", 2, 16, BENCH_DONE, 3, 15, 0},
+        {"a kept gap above the tolerance", 5, 1, BENCH_DONE, 3, 15, 0},
+        {"n 121", 0, 121, BENCH_NOTHING_KEPT, 0, 0, 0},
+        {"n 2", 0, 2, BENCH_NOTHING_KEPT, 0, 0, 0},
+        {"another job", 1, 8, BENCH_NOTHING_KEPT, 0, 0, 0},
+        {"a link count of 161", AT_LINKS, 161, BENCH_NOTHING_KEPT, 0, 0, 0},
+        {"a link count of 258", AT_LINKS, 258, BENCH_NOTHING_KEPT, 0, 0, 0},
+    };
+    uint32_t out[3];
+    keep_linked();
+    for (size_t i = 0; i < sizeof cases / sizeof *cases; i++) {
+        uint32_t *word = &shelf[slot_at(3, 0) + cases[i].word], was = *word;
+        *word = cases[i].to;
+        expect_answer(fetch(LINKED, sizeof LINKED, out, 3), cases[i].number, cases[i].place, cases[i].loss, cases[i].gap, cases[i].what);
+        *word = was;
+    }
+    shelf[slot_at(3, 0) + AT_VALUES + 2] = shelf[slot_at(3, 0) + AT_MULTIPLIERS] = 4294967295;
+    expect_answer(fetch(LINKED, sizeof LINKED, out, 0), BENCH_BAD_PROPOSAL, 9, 0, 0, "values are tested before multipliers");
+}
+
+/* Two slots have the job: the lower one is it, whatever its counts. */
+static void duplicate_slots(void)
+{
+    uint32_t out[3];
+    keep_linked();
+    memcpy(shelf + slot_at(3, 2), shelf + slot_at(3, 0), SLOT_WORDS * sizeof *shelf);
+    shelf[slot_at(3, 2) + AT_MULTIPLIERS] = 0;
+    expect_answer(fetch(LINKED, sizeof LINKED, out, 3), BENCH_DONE, 3, 15, 0, "the lower slot is fetched");
+    shelf[slot_at(3, 0) + AT_LINKS] = 1;
+    expect_answer(fetch(LINKED, sizeof LINKED, out, 3), BENCH_NOTHING_KEPT, 0, 0, 0, "also if its count of links differs");
+    shelf[slot_at(3, 0)] = 0;
+    expect_answer(fetch(LINKED, sizeof LINKED, out, 3), BENCH_DONE, 3, 15, 2, "but not if it is empty");
 }
 
 /* Refusals of a job pack: one byte of JOB, LINKED or SELECT is changed, or its length. */
@@ -201,6 +360,9 @@ static void job_refusals(void)
         {"a select table cut off before its columns", SELECT, 5, 0, 3, 1, 5},
     };
     uint8_t pack[64], out[BENCH_MOST_HOUSE_BYTES];
+    uint32_t no_words[1];
+    clear();
+    keep(JOB, sizeof JOB, PROPOSAL, 3);
     for (size_t i = 0; i < sizeof cases / sizeof *cases; i++) {
         const struct damaged *c = &cases[i];
         memcpy(pack, c->pack, c->bytes);
@@ -208,10 +370,18 @@ static void job_refusals(void)
         expect_answer(check(pack, c->bytes, PROPOSAL, 3), c->number, c->place, 0, 0, c->what);
         expect_answer(bench_propose(pack, c->bytes, out, sizeof out, answer, BENCH_ANSWER_WORDS), c->number, c->place, 0, 0, c->what);
         expect_answer(keep(pack, c->bytes, PROPOSAL, 3), c->number, c->place, 0, 0, c->what);
+        expect_answer(fetch(pack, c->bytes, no_words, 0), c->number, c->place, 0, 0, c->what);
     }
+}
+
+static void weight_refusals(void)
+{
+    uint8_t pack[sizeof LINKED];
+    uint32_t no_words[1];
     memcpy(pack, LINKED, sizeof LINKED);
     pack[7] = pack[11] = 0;
     expect_answer(check(pack, sizeof LINKED, PROPOSAL, 3), BENCH_FEW_WEIGHTS, 0, 0, 0, "one positive weight where the order is 2");
+    expect_answer(fetch(pack, sizeof LINKED, no_words, 0), BENCH_FEW_WEIGHTS, 0, 0, 0, "one positive weight at a fetch");
 }
 
 static void proposal_refusals(void)
@@ -329,17 +499,39 @@ static void largest_line(void)
 static void shelf_refusals(void)
 {
     uint32_t out[3] = {9, 9, 9};
-    bench_clear(shelf, BENCH_SHELF_WORDS, answer, BENCH_ANSWER_WORDS);
+    clear();
     keep(JOB, sizeof JOB, PROPOSAL, 3);
-    expect_answer(fetch(8, 7, out, 3), BENCH_NO_SUCH_SOCIETY, 0, 0, 0, "fetch for society 8");
+    expect_answer(fetch_named(8, 7), BENCH_NOT_ALLOWED, 0, 0, 0, "fetch for society 8 is a job that is not allowed");
     expect_answer(forget(8, 7), BENCH_NO_SUCH_SOCIETY, 0, 0, 0, "forget for society 8");
-    expect_answer(fetch(3, 8, out, 3), BENCH_NOTHING_KEPT, 0, 0, 0, "fetch of a job that is not kept");
+    expect_answer(fetch_named(3, 8), BENCH_NOTHING_KEPT, 0, 0, 0, "fetch of a job that is not kept");
     expect_answer(forget(3, 8), BENCH_NOTHING_KEPT, 0, 0, 0, "forget of a job that is not kept");
-    expect_answer(fetch(3, 7, out, 2), BENCH_WRONG_LENGTH, 3, 0, 0, "fetch into two words");
+    expect_answer(fetch(JOB, sizeof JOB, out, 2), BENCH_WRONG_LENGTH, 3, 0, 0, "fetch into two words");
     expect(out[0] == 9 && out[1] == 9 && out[2] == 9, "refused fetches write no value");
     expect_answer(bench_clear(shelf, BENCH_SHELF_WORDS - 1, answer, BENCH_ANSWER_WORDS), BENCH_WRONG_LENGTH, BENCH_SHELF_WORDS, 0, 0,
                   "a shelf one word short");
-    expect(shelf[3 * 504] == 3, "a refused clear clears nothing");
+    expect(shelf[slot_at(3, 0)] == 3, "a refused clear clears nothing");
+}
+
+/* A shelf of version 2 is no shelf, before all else. */
+static void old_shelf(void)
+{
+    enum { OLD_WORDS = 4032, PLACE = 9184 };
+    static uint32_t old[OLD_WORDS];
+    uint32_t out[3];
+    size_t changed = 0;
+    for (size_t i = 0; i < OLD_WORDS; i++)
+        old[i] = 9;
+    uint64_t said = bench_keep(old, OLD_WORDS, JOB, sizeof JOB, PROPOSAL, 3, answer, BENCH_ANSWER_WORDS);
+    expect_answer(said, BENCH_WRONG_LENGTH, PLACE, 0, 0, "keep on a shelf of version 2");
+    said = bench_fetch(old, OLD_WORDS, JOB, 0, out, 3, answer, BENCH_ANSWER_WORDS);
+    expect_answer(said, BENCH_WRONG_LENGTH, PLACE, 0, 0, "fetch from a shelf of version 2");
+    said = bench_forget(old, OLD_WORDS, 8, 7, answer, BENCH_ANSWER_WORDS);
+    expect_answer(said, BENCH_WRONG_LENGTH, PLACE, 0, 0, "forget on a shelf of version 2");
+    said = bench_clear(old, OLD_WORDS, answer, BENCH_ANSWER_WORDS);
+    expect_answer(said, BENCH_WRONG_LENGTH, PLACE, 0, 0, "clear on a shelf of version 2");
+    for (size_t i = 0; i < OLD_WORDS; i++)
+        changed += old[i] != 9;
+    expect(changed == 0, "a shelf of version 2 stays as it was");
 }
 
 static void length_refusals(void)
@@ -370,13 +562,21 @@ int main(void)
     proposals();
     round_trip();
     select_table();
+    slot_words();
+    corrected_job();
+    corrected_links();
+    line_and_grid();
+    spoilt_words();
+    duplicate_slots();
     job_refusals();
+    weight_refusals();
     proposal_refusals();
     thin_refusal();
     wide_refusal();
     largest_job();
     largest_line();
     shelf_refusals();
+    old_shelf();
     length_refusals();
     printf("%d passed, %d failed\n", passed, failed);
     return failed == 0 ? 0 : 1;

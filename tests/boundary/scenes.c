@@ -1,13 +1,14 @@
 /* See scenes.h. The twin is asked beforehand how much room an output needs, so that lengths can be exact or one short. */
 #include "scenes.h"
 #include "../twin/twin.h"
-#include "numbers.h"
+#include "corrections.h"
 #include "shapes.h"
+#include "shelves.h"
 
 #include <string.h>
 
-/* The draft that is in use, which `drawn` or its broken copy is. */
-static struct draft drawn, broken;
+/* The draft that is in use: `drawn`, for a fetch `asked`, or a broken copy of it. */
+static struct draft drawn, asked, broken;
 static const struct draft *draft = &drawn;
 static struct numbers list;
 static struct bytes job_pack, proposal_pack;
@@ -28,18 +29,18 @@ static void lend(struct call *c, const void *content, size_t count, size_t width
     c->slice[c->slices++] = slice;
 }
 
+/* Clear, which is seldom called, gets a wrong answer slice and a wrong shelf more often. */
 static void lend_answer(struct random *r, struct call *c)
 {
     static const size_t odd[] = {0, 3, 5, 8};
-    size_t count = random_chance(r, 3) ? odd[random_below(r, 4)] : ANSWER_WORDS;
+    size_t count = random_chance(r, c->function == CLEAR ? 15 : 3) ? odd[random_below(r, 4)] : ANSWER_WORDS;
     lend(c, some_noise(r), count, sizeof(uint64_t), true);
 }
 
-/* Clear, which is seldom called, gets a wrong shelf more often. */
 static void lend_shelf(struct random *r, struct call *c)
 {
-    static const size_t odd[] = {0, 504, SHELF_WORDS - 1, SHELF_WORDS + 1};
-    size_t count = random_chance(r, c->function == CLEAR ? 30 : 3) ? odd[random_below(r, 4)] : SHELF_WORDS;
+    static const size_t odd[] = {0, SLOTS * SLOT_WORDS, OLD_SHELF_WORDS, SHELF_WORDS - 1, SHELF_WORDS + 1};
+    size_t count = random_chance(r, c->function == CLEAR ? 30 : 3) ? odd[random_below(r, 5)] : SHELF_WORDS;
     lend(c, shelf, count, sizeof *shelf, c->function != FETCH);
 }
 
@@ -52,41 +53,20 @@ static void lend_output(struct random *r, struct call *c, uint64_t needed, size_
     lend(c, some_noise(r), count, width, true);
 }
 
-/* A word of a garbage shelf's slot: its n about the limits, its job one of a few, and anything after that. */
-static void garbage_shelf(struct random *r)
-{
-    static const uint32_t counts[] = {0, 1, 2, 3, 119, 120, 121, 4294967295};
-    for (size_t i = 0; i < SHELF_WORDS; i++)
-        shelf[i] = (uint32_t)random_next(r);
-    for (size_t slot = 0; slot < SOCIETIES * SLOTS; slot++) {
-        if (random_chance(r, 95))
-            shelf[slot * SLOT_WORDS] = random_chance(r, 60) ? counts[random_below(r, 8)] : (uint32_t)random_between(r, 2, 120);
-        if (random_chance(r, 90))
-            shelf[slot * SLOT_WORDS + 1] = (uint32_t)random_below(r, 6);
-    }
-}
-
-static void begin_shelf(struct random *r)
-{
-    memset(shelf, 0, sizeof shelf);
-    if (random_chance(r, 40))
-        garbage_shelf(r);
-}
-
 static void break_draft(struct random *r)
 {
-    broken = drawn;
+    broken = *draft;
     draft = &broken;
     draft_break(r, &broken);
     if (random_chance(r, 15))
         draft_break(r, &broken);
 }
 
-/* The job pack: whole, with a broken rule, or damaged; now and then twice, so that the order of refusals shows. */
-static void draw_job(struct random *r)
+/* The draft's job pack: whole, with a broken rule, or damaged; now and then twice, so that the order of refusals shows. */
+static void draw_job(struct random *r, const struct draft *of)
 {
     bool rule = random_chance(r, 22), number = !rule && random_chance(r, 28);
-    draft = &drawn;
+    draft = of;
     if (rule)
         break_draft(r);
     numbers_of_job(&draft->job, &list);
@@ -132,15 +112,50 @@ static void draw_words(struct random *r)
 /* A society and a job number: those of kept tables as often as others. */
 static void draw_key(struct random *r, struct call *c)
 {
-    static const uint32_t odd[] = {8, 9, 32, 4294967295};
-    c->society = (uint32_t)(random_chance(r, 60) ? random_below(r, 2) * 7 : random_below(r, 8));
+    c->society = (uint32_t)(random_chance(r, 60) ? random_below(r, 2) * 7 : random_below(r, SOCIETIES));
     c->job = (uint32_t)random_below(r, 6);
     if (random_chance(r, 70)) {
         int64_t slots = random_between(r, 1, SLOTS);
-        c->job = shelf[((size_t)c->society * SLOTS + (size_t)random_below(r, slots)) * SLOT_WORDS + 1];
+        c->job = shelf[((size_t)c->society * SLOTS + (size_t)random_below(r, slots)) * SLOT_WORDS + AT_JOB];
     }
+}
+
+/* What to forget: now and then of a society that there is not. */
+static void draw_forgotten(struct random *r, struct call *c)
+{
+    static const uint32_t odd[] = {SOCIETIES, SOCIETIES + 1, 32, UINT32_MAX};
+    draw_key(r, c);
     if (random_chance(r, 8))
         c->society = odd[random_below(r, 4)];
+}
+
+/* Something that is kept and remembered, or a null pointer where a few tries find nothing. */
+static const struct draft *some_kept(struct random *r, struct call *c)
+{
+    for (int tries = 0; tries < 8; tries++) {
+        draw_key(r, c);
+        const struct draft *kept = shelf_recall(c->society, c->job);
+        if (kept && twin_find(shelf, c->society, c->job))
+            return kept;
+    }
+    return NULL;
+}
+
+/* The job to fetch for: a kept table's own as it was, corrected, with other counts or under another name; or the one that is drawn. */
+static void draw_asked(struct random *r, struct call *c)
+{
+    const struct draft *kept = some_kept(r, c);
+    int64_t way = random_below(r, 10);
+    asked = kept && random_chance(r, 95) ? *kept : drawn;
+    if (way < 5)
+        correct_job(r, &asked);
+    else if (way == 5)
+        correct_counts(r, &asked.job);
+    else if (way == 6)
+        correct_name(r, &asked.job);
+    draw_job(r, &asked);
+    if (random_chance(r, 15))
+        shelf_spoil(r, shelf, (uint32_t)asked.job.society, (uint32_t)asked.job.number);
 }
 
 static void lend_job(struct call *c)
@@ -162,7 +177,7 @@ static void pack_call(struct random *r, struct call *c)
         lend_output(r, c, said % 32 == 0 ? said / 32 : 0, 3586, 1);
         return;
     }
-    draw_job(r);
+    draw_job(r, &drawn);
     lend_job(c);
     if (c->function == CHECK) {
         draw_proposal(r);
@@ -179,30 +194,35 @@ static void pack_call(struct random *r, struct call *c)
 /* Keep, fetch, forget and clear. */
 static void shelf_call(struct random *r, struct call *c)
 {
+    static uint32_t room[MOST_CELLS];
+    uint64_t answer[ANSWER_WORDS];
     lend_shelf(r, c);
-    draw_key(r, c);
     if (c->function == KEEP) {
-        draw_job(r);
+        draw_job(r, &drawn);
         draw_proposal(r);
         lend_job(c);
         lend(c, proposal_pack.at, proposal_pack.count, 1, false);
     } else if (c->function == FETCH) {
-        const uint32_t *slot = c->society < SOCIETIES ? twin_find(shelf, c->society, c->job) : NULL;
-        lend_output(r, c, slot ? slot[0] : 0, MOST_CELLS, sizeof(uint32_t));
+        draw_asked(r, c);
+        lend_job(c);
+        uint64_t said = twin_fetch(shelf, SHELF_WORDS, job_pack.at, job_pack.count, room, MOST_CELLS, answer, ANSWER_WORDS);
+        lend_output(r, c, said % 32 == 0 ? said / 32 : 0, MOST_CELLS, sizeof(uint32_t));
+    } else if (c->function == FORGET) {
+        draw_forgotten(r, c);
     }
 }
 
 void scene_call(struct random *r, struct call *c)
 {
     static const struct { enum function function; int share; } shares[] = {
-        {CHECK, 240}, {PROPOSE, 160}, {KEEP, 235}, {FETCH, 110}, {FORGET, 42}, {CLEAR, 6}, {READ, 85}, {WRITE, 122},
+        {CHECK, 210}, {PROPOSE, 150}, {KEEP, 240}, {FETCH, 180}, {FORGET, 40}, {CLEAR, 3}, {READ, 75}, {WRITE, 102},
     };
     for (size_t i = 0; !begun && i < sizeof noise / sizeof *noise; i++)
         noise[i] = random_next(r);
     if (!begun || random_chance(r, 25))
         draft_make(r, &drawn);
-    if (!begun || random_below(r, 400) == 0)
-        begin_shelf(r);
+    if (!begun || random_below(r, 800) == 0)
+        shelf_begin(r, shelf);
     begun = true;
     memset(c, 0, sizeof *c);
     int64_t share = random_below(r, 1000);
@@ -217,8 +237,10 @@ void scene_call(struct random *r, struct call *c)
     lend_answer(r, c);
 }
 
-void scene_shelf(const struct call *c, const void *after)
+void scene_shelf(const struct call *c, uint64_t said, const void *after)
 {
     if (c->function >= KEEP && c->function <= CLEAR && c->slice[0].count == SHELF_WORDS)
         memcpy(shelf, after, sizeof *shelf * SHELF_WORDS);
+    if (c->function == KEEP && said == 0)
+        shelf_remember(&job_pack, &proposal_pack);
 }

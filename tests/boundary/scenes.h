@@ -8,7 +8,7 @@
 /* The next call. Its slices' contents stay as they are until the next one is asked for. */
 void scene_call(struct random *r, struct call *call);
 
-/* Takes over the shelf as the call has left it. */
-void scene_shelf(const struct call *call, const void *shelf);
+/* Takes over the shelf as the call, which returned `said`, has left it. */
+void scene_shelf(const struct call *call, uint64_t said, const void *shelf);
 
 #endif

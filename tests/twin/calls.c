@@ -1,4 +1,5 @@
-/* The eight calls (document 01, "Numbers Mr Aldous reads"): the order of the refusals, and what a call returns and writes. */
+/* The eight calls (document 01, "Numbers Mr Aldous reads"; fetch document 02, W-203): the order of the refusals, and what a call returns and
+ * writes. */
 #include "parts.h"
 #include "twin.h"
 
@@ -94,22 +95,37 @@ uint64_t twin_keep(uint32_t *shelf, size_t shelf_words, const uint8_t *job, size
     return told(a, answer);
 }
 
-uint64_t twin_fetch(const uint32_t *shelf, size_t shelf_words, uint32_t society, uint32_t job,
+/* What fetch says before it asks for room: a job that is refused, then 12, then what "the check would" say of the kept numbers (document 02,
+ * W-203). The loss and gap that were kept are not looked at. */
+static struct twin_answer fetched(const uint32_t *shelf, const uint8_t *job_pack, size_t job_bytes, struct twin_job *job, struct twin_table *table)
+{
+    struct twin_answer a = twin_read_job(job_pack, job_bytes, job);
+    if (a.number != 0)
+        return a;
+    const uint32_t *slot = twin_find_for(shelf, job);
+    if (!slot)
+        return twin_plain(12, 0);
+    a = twin_take_table(slot, job, table);
+    return a.number == 0 ? twin_judge(job, table) : a;
+}
+
+uint64_t twin_fetch(const uint32_t *shelf, size_t shelf_words, const uint8_t *job, size_t job_bytes,
                     uint32_t *out, size_t out_words, uint64_t *answer, size_t answer_words)
 {
+    struct twin_job read;
+    struct twin_table table;
     if (answer_words != ANSWER_WORDS)
         return wrong_answer_slice();
     if (shelf_words != SHELF_WORDS)
         return told(wrong_shelf(), answer);
-    if (society >= SOCIETIES)
-        return told(twin_plain(11, 0), answer);
-    const uint32_t *slot = twin_find(shelf, society, job);
-    if (!slot)
-        return told(twin_plain(12, 0), answer);
-    if (out_words < slot[0])
-        return told(twin_plain(13, slot[0]), answer);
-    memcpy(out, slot + 6, slot[0] * sizeof *out);
-    struct twin_answer a = {0, slot[0], slot[2] | (uint64_t)slot[3] << 32, slot[4] | (uint64_t)slot[5] << 32};
+    struct twin_answer a = fetched(shelf, job, job_bytes, &read, &table);
+    if (a.number != 0)
+        return told(a, answer);
+    a.place = (uint64_t)read.cells;
+    if (out_words < a.place)
+        return told(twin_plain(13, a.place), answer);
+    for (int64_t i = 0; i < read.cells; i++)
+        out[i] = (uint32_t)table.value[i];
     return told(a, answer);
 }
 

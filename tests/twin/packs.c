@@ -135,8 +135,8 @@ static bool take_header(struct source *s, struct twin_job *job)
 
 static inline bool take_cell(struct source *s, struct twin_job *job, int64_t i)
 {
-    if (!take(s, UNSIGNED, 0, 1000000, &job->u[i]) || !take(s, UNSIGNED, 0, 1000, &job->w[i])
-        || !take(s, UNSIGNED, 0, 1000000, &job->lo[i]) || !take(s, UNSIGNED, 0, 1000000, &job->hi[i]))
+    if (!take(s, UNSIGNED, 0, MOST_VALUE, &job->u[i]) || !take(s, UNSIGNED, 0, 1000, &job->w[i])
+        || !take(s, UNSIGNED, 0, MOST_VALUE, &job->lo[i]) || !take(s, UNSIGNED, 0, MOST_VALUE, &job->hi[i]))
         return false;
     return job->lo[i] <= job->hi[i] || refuse(s, 3, (uint64_t)i);
 }
@@ -201,10 +201,10 @@ struct twin_answer twin_read_proposal(const uint8_t *bytes, size_t count, const 
 {
     struct source s = {.bytes = bytes, .count = count};
     for (int64_t i = 0; i < job->cells; i++)
-        if (!take(&s, UNSIGNED, 0, 1000000, &table->value[i]))
+        if (!take(&s, UNSIGNED, 0, MOST_VALUE, &table->value[i]))
             return twin_plain(6, s.start);
     for (int64_t l = 0; l < job->links; l++)
-        if (!take(&s, UNSIGNED, 0, 1000000000, &table->multiplier[l]))
+        if (!take(&s, UNSIGNED, 0, MOST_MULTIPLIER, &table->multiplier[l]))
             return twin_plain(6, s.start);
     return s.at < count ? twin_plain(6, s.at) : twin_plain(0, 0);
 }

@@ -7,7 +7,8 @@
 #include <stdint.h>
 
 enum { MOST_CELLS = 120, MOST_LINKS = 160, MOST_TERMS = 4, MOST_ORDER = 4 };
-enum { ANSWER_WORDS = 4, SHELF_WORDS = 4032 };
+enum { MOST_VALUE = 1000000, MOST_MULTIPLIER = 1000000000 };
+enum { ANSWER_WORDS = 4 };
 
 /* The order field that announces a grid (document 02, W-205). */
 enum { GRID = 5 };
@@ -65,9 +66,25 @@ struct twin_answer twin_house_grid(const struct twin_job *job, int64_t *value);
 int64_t twin_product(int64_t order, int64_t length, int64_t j, int64_t i);
 int64_t twin_rounded(double v, int64_t lo, int64_t hi);
 
-/* The shelf: a slot is one of document 01's places of 126 words. twin_find answers the slot, or a null pointer. */
-enum { SLOTS = 4, SLOT_WORDS = 126, SOCIETIES = 8 };
+/* The words of a slot, which is what document 01 calls a place of the shelf: "01's six, the link count, 120 values, 160 multipliers"
+ * (document 02, W-203). Loss and gap are a low and a high word each. */
+enum {
+    AT_CELLS = 0,
+    AT_JOB = 1,
+    AT_LOSS = 2,
+    AT_GAP = 4,
+    AT_LINKS = 6,
+    AT_VALUES = 7,
+    AT_MULTIPLIERS = AT_VALUES + MOST_CELLS,
+    SLOT_WORDS = AT_MULTIPLIERS + MOST_LINKS
+};
+
+/* The shelf. twin_find answers the lowest slot of the society with the job, or a null pointer; twin_find_for the same for a job that was read, if
+ * the slot has as many cells and links. twin_take_table gives its numbers, or refusal 6. */
+enum { SOCIETIES = 8, SLOTS = 4, SHELF_WORDS = SOCIETIES * SLOTS * SLOT_WORDS };
 const uint32_t *twin_find(const uint32_t *shelf, uint32_t society, uint32_t job);
+const uint32_t *twin_find_for(const uint32_t *shelf, const struct twin_job *job);
+struct twin_answer twin_take_table(const uint32_t *slot, const struct twin_job *job, struct twin_table *table);
 void twin_put_table(uint32_t *shelf, const struct twin_job *job, const struct twin_table *table, uint64_t loss, uint64_t gap);
 bool twin_remove(uint32_t *shelf, uint32_t society, uint32_t job);
 

@@ -1,4 +1,5 @@
-/* The shelf (document 01): eight societies of four slots, on lent words that may hold anything. */
+/* The shelf (document 01; the words of a slot and what fetch asks of them document 02, W-203): eight societies of four slots, on lent words that
+ * may hold anything. */
 #include "parts.h"
 
 #include <string.h>
@@ -10,16 +11,41 @@ static uint32_t *slot_at(uint32_t *shelf, uint32_t society, int slot)
 
 static bool is_empty(const uint32_t *slot)
 {
-    return slot[0] < 2 || slot[0] > MOST_CELLS;
+    return slot[AT_CELLS] < 2 || slot[AT_CELLS] > MOST_CELLS;
 }
 
 const uint32_t *twin_find(const uint32_t *shelf, uint32_t society, uint32_t job)
 {
     const uint32_t *slot = shelf + society * SLOTS * SLOT_WORDS;
     for (int s = 0; s < SLOTS; s++, slot += SLOT_WORDS)
-        if (!is_empty(slot) && slot[1] == job)
+        if (!is_empty(slot) && slot[AT_JOB] == job)
             return slot;
     return NULL;
+}
+
+/* "12 also when the kept cell or link count differs from the job's": a kept link count above 160 differs from every job's. */
+const uint32_t *twin_find_for(const uint32_t *shelf, const struct twin_job *job)
+{
+    const uint32_t *slot = twin_find(shelf, (uint32_t)job->society, (uint32_t)job->number);
+    if (!slot || slot[AT_CELLS] != job->cells || slot[AT_LINKS] != job->links)
+        return NULL;
+    return slot;
+}
+
+/* "6 for a kept number not allowed, place its word within the place": the values first, and no word that the job's counts leave unused. */
+struct twin_answer twin_take_table(const uint32_t *slot, const struct twin_job *job, struct twin_table *table)
+{
+    for (int64_t i = 0; i < job->cells; i++) {
+        table->value[i] = slot[AT_VALUES + i];
+        if (table->value[i] > MOST_VALUE)
+            return twin_plain(6, (uint64_t)(AT_VALUES + i));
+    }
+    for (int64_t l = 0; l < job->links; l++) {
+        table->multiplier[l] = slot[AT_MULTIPLIERS + l];
+        if (table->multiplier[l] > MOST_MULTIPLIER)
+            return twin_plain(6, (uint64_t)(AT_MULTIPLIERS + l));
+    }
+    return twin_plain(0, 0);
 }
 
 /* Moves the slots after this one down by one. The last stays as it was. */
@@ -42,18 +68,25 @@ static uint32_t *slot_for(uint32_t *shelf, uint32_t society, uint32_t job)
     return slot_at(shelf, society, SLOTS - 1);
 }
 
+static void put_wide(uint32_t *low_and_high, uint64_t value)
+{
+    low_and_high[0] = (uint32_t)value;
+    low_and_high[1] = (uint32_t)(value >> 32);
+}
+
 void twin_put_table(uint32_t *shelf, const struct twin_job *job, const struct twin_table *table, uint64_t loss, uint64_t gap)
 {
     uint32_t *slot = slot_for(shelf, (uint32_t)job->society, (uint32_t)job->number);
     memset(slot, 0, SLOT_WORDS * sizeof *slot);
-    slot[0] = (uint32_t)job->cells;
-    slot[1] = (uint32_t)job->number;
-    slot[2] = (uint32_t)loss;
-    slot[3] = (uint32_t)(loss >> 32);
-    slot[4] = (uint32_t)gap;
-    slot[5] = (uint32_t)(gap >> 32);
+    slot[AT_CELLS] = (uint32_t)job->cells;
+    slot[AT_JOB] = (uint32_t)job->number;
+    put_wide(slot + AT_LOSS, loss);
+    put_wide(slot + AT_GAP, gap);
+    slot[AT_LINKS] = (uint32_t)job->links;
     for (int64_t i = 0; i < job->cells; i++)
-        slot[6 + i] = (uint32_t)table->value[i];
+        slot[AT_VALUES + i] = (uint32_t)table->value[i];
+    for (int64_t l = 0; l < job->links; l++)
+        slot[AT_MULTIPLIERS + l] = (uint32_t)table->multiplier[l];
 }
 
 bool twin_remove(uint32_t *shelf, uint32_t society, uint32_t job)

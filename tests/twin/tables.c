@@ -1,4 +1,4 @@
-/* The twin against document 01 itself: its tables worked by hand, its forms of numbers, and the checking program's lines. Then grids. */
+/* The twin against document 01 itself: its tables worked by hand, its forms of numbers, and the checking program's lines. Then grids, and fetches. */
 #include "tables.h"
 #include "twin.h"
 
@@ -123,6 +123,7 @@ int main(void)
     readings();
     lines();
     select_tables();
+    fetched_tables();
     printf("%d passed, %d failed\n", passed, failed);
     return failed == 0 ? 0 : 1;
 }

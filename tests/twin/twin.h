@@ -12,7 +12,7 @@ uint64_t twin_propose(const uint8_t *job, size_t job_bytes, uint8_t *out, size_t
                       uint64_t *answer, size_t answer_words);
 uint64_t twin_keep(uint32_t *shelf, size_t shelf_words, const uint8_t *job, size_t job_bytes,
                    const uint8_t *proposal, size_t proposal_bytes, uint64_t *answer, size_t answer_words);
-uint64_t twin_fetch(const uint32_t *shelf, size_t shelf_words, uint32_t society, uint32_t job,
+uint64_t twin_fetch(const uint32_t *shelf, size_t shelf_words, const uint8_t *job, size_t job_bytes,
                     uint32_t *out, size_t out_words, uint64_t *answer, size_t answer_words);
 uint64_t twin_forget(uint32_t *shelf, size_t shelf_words, uint32_t society, uint32_t job,
                      uint64_t *answer, size_t answer_words);

@@ -11,7 +11,7 @@ use Rattle.packs.specs.Writing.{roomed}
 use Rattle.jobs.specs.Packs.{readJobInto, writeJob}
 use Rattle.measure.specs.Check.{checkOf}
 use Rattle.checked.specs.declared.Answer.{Answer}
-use Rattle.shelf.specs.Shelf.{base, cleared}
+use Rattle.shelf.specs.Shelf.{base}
 use Rattle.shelf.specs.Calls.{keep, fetch, forget, clear, after, said}
 use Rattle.house.specs.Proposal.{proposeOf}
 use Rattle.shelf.proofs.Spans.{base-lawful}
@@ -19,7 +19,7 @@ use Rattle.bench.specs.Answers.{codeOf, answerWords, hasFour, Says}
 use Rattle.bench.proofs.Small.{Small, check-small}
 use Rattle.bench.proofs.Outcomes.{propose-small, read-small, write-small}
 use Rattle.bench.proofs.Shelves.{said-small}
-use Rattle.claims.specs.Seen.{withoutOthers, ownSeen}
+use Rattle.claims.specs.Seen.{clears, withoutOthers, ownSeen}
 use Rattle.claims.specs.BenchPromises.{Among, Untouched, Determined, Numbered, RefusalsKept, RestsKept, AcceptedTold, EightListsSeen, NoNeighbourSeen}
 use Rattle.claims.proofs.Told.{told-of, kept-told}
 use Rattle.claims.proofs.FetchTold.{fetch-told}
@@ -166,7 +166,7 @@ accepted-told = record {
 -- ---- sequences
 
 pub eight-lists-seen : EightListsSeen
-eight-lists-seen mades seens m = run-seen mades (cleared base) seens m ∙ lists-seen base base-lawful mades
+eight-lists-seen shelf answer len four mades seens m = run-seen (clears answer ∷ mades) shelf seens m ∙ lists-seen base base-lawful shelf answer len four mades
 
 pub no-neighbour-seen : NoNeighbourSeen
 no-neighbour-seen society mades shelf seens fewer m k =

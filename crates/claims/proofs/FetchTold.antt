@@ -8,7 +8,7 @@ use native.Mathlib.Omega.{arith}
 use borrow.Author.Tests.{eqb-true, ltb-true, ltb-false}
 use lib.Dec.{eqb, ltb, lit<}
 use lib.IntN.{ℤ, pos, natAbs}
-use lib.ListN.{length, drop, getD, length-drop, List·getD-append, List·getD-eq-default}
+use lib.ListN.{length, drop, getD, length-drop, length-append, List·getD-append, List·getD-eq-default}
 use lib.Seq.{length-take-le}
 use Rattle.whole.proofs.Fits.{small-fits}
 use Rattle.numbers.specs.Choice.{if_then_else_}
@@ -224,6 +224,8 @@ fetch-told shelf job out answered left n w l =
         accepted = h .accepted;
         best = h .best;
       };
+      room = subst (λ (xs : List ℕ). jobIn job .cells ≤ length xs) (sym (l ∙ ap (overwritten out) (h .given)))
+          (omega (arith, g .count, length-append (g .kept) (drop (length (g .kept)) out)));
       values = λ i k.
           ap (λ (xs : List ℕ). pos (getD xs i 0)) (l ∙ ap (overwritten out) (h .given))
           ∙ ap pos (List·getD-append (g .kept) (drop (length (g .kept)) out) 0 i (omega (arith, g .count))) ∙ g .values i k;

@@ -15,6 +15,7 @@ use Rattle.shelf.specs.Shelf.{forgetReply, Layout, base, spanOf, fromSociety, o
 use Rattle.checked.specs.Checked.{checkedOf}
 use Rattle.shelf.specs.Calls.{Call, keep, fetch, forget, clear, named, names, namesOther, after, said}
 use Rattle.shelf.proofs.Spans.{Lawful}
+use Rattle.shelf.proofs.Lengths.{on-whole, from-whole}
 use Rattle.bench.specs.Answers.{hasFour, leftFor, Says}
 use Rattle.claims.specs.Lists.{Lists, nothing, listsAfter}
 use Rattle.claims.specs.Seen.{Made, keeps, fetches, forgets, clears, callOf, answerLent, Seen, Makes, MakesAll, seenOf, listsLeft, listsSeen, withoutOthers, ownSeen}
@@ -134,8 +135,14 @@ module _ (l : Layout) (ok : Lawful l) where
       ap₂ (λ (s : Seen) (ss : List Seen). s ∷ ss) (ap (seenOf made) (sim-said l ok (callOf made) xs lists sim))
       (sim-seen mades (leftOn l xs made) (listsLeft (l .count) lists made) (sim-left made xs lists sim))
 
-  pub lists-seen : (mades : List Made) → shelfSeen l (cleared l) mades ≡ listsSeen (l .count) nothing mades
-  lists-seen mades = sim-seen mades (cleared l) nothing (sim-cleared l ok)
+  -- a clearing leaves the cleared shelf, and no list has a table
+  pub lists-seen : (shelf answer : List ℕ) → length shelf ≡ l .total → hasFour answer ≡ true → (mades : List Made)
+      → shelfSeen l shelf (clears answer ∷ mades) ≡ listsSeen (l .count) nothing (clears answer ∷ mades)
+  lists-seen shelf answer len four mades =
+      let left : leftOn l shelf (clears answer) ≡ cleared l = ap (λ (b : Bool). if b then after l shelf clear else shelf) four ∙ sym (on-whole l shelf len (λ s. cleared l)) in
+      let lists : listsLeft (l .count) nothing (clears answer) ≡ nothing = ap {B = Lists} (λ (b : Bool). if b then nothing else nothing) four in
+      ap₂ (λ (s : Seen) (ss : List Seen). s ∷ ss) (ap (seenOf (clears answer)) (sym (from-whole l shelf len (λ s. done))))
+      (ap (λ (x : List ℕ). shelfSeen l x mades) left ∙ sim-seen mades (cleared l) nothing (sim-cleared l ok) ∙ ap (λ (x : Lists). listsSeen (l .count) x mades) (sym lists))
 
   -- ---- no neighbour
   left-length : (made : Made) (xs : List ℕ) → length (leftOn l xs made) ≡ length xs

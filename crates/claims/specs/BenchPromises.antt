@@ -3,20 +3,21 @@
 use Prim.Native.Nat.{ℕ, _/_, _%_, _≤_, _<_}
 use mathlib.Core.Path.{_≡_}
 use mathlib.Core.Logic.{_⊎_}
+use mathlib.Core.Bool.{true}
 use mathlib.Core.List.{List, [], _∷_}
 use lib.IntN.{ℤ, pos}
-use lib.ListN.{drop, getD}
+use lib.ListN.{length, drop, getD}
 use Rattle.numbers.specs.Choice.{if_then_else_}
 use Rattle.measure.specs.declared.check.Verdict.the-variants.{Accepted}
 use Rattle.measure.specs.Check.{checkOf}
-use Rattle.shelf.specs.Shelf.{base, cleared}
+use Rattle.shelf.specs.Shelf.{shelfWords}
 use Rattle.shelf.specs.Calls.{Call, keep, forget, clear}
 use Rattle.bench.specs.Answers.{hasFour}
 use Rattle.bench.specs.Calls.{CheckSays, ProposeSays, ReadSays, WriteSays, ShelfSays, FetchSays}
 use Rattle.claims.specs.Read.{jobIn, valuesIn}
 use Rattle.claims.specs.Meets.{NoneBelow}
 use Rattle.claims.specs.Lists.{nothing, four}
-use Rattle.claims.specs.Seen.{Made, Seen, MakesAll, listsSeen, withoutOthers, ownSeen}
+use Rattle.claims.specs.Seen.{Made, clears, Seen, MakesAll, listsSeen, withoutOthers, ownSeen}
 
 -- What a call may claim of the number that it returns, of its answer slice, and of the slice that it writes to.
 abbrev pub Claim : Type 0 → Type 1
@@ -107,6 +108,7 @@ pub record ToldBest (job proposal : List ℕ) (place : ℕ) (answered : List ℕ
 pub record ToldFetched (job answered left : List ℕ) : Type 0 where
   pub proposal : List ℕ
   pub told : ToldBest job proposal (jobIn job .cells) answered
+  pub room : jobIn job .cells ≤ length left
   pub values : (i : ℕ) → i < jobIn job .cells → pos (getD left i 0) ≡ valuesIn job proposal i
 
 -- So it is wherever check, keep or fetch returns the number 0, whatever words are on the shelf.
@@ -117,10 +119,12 @@ pub record AcceptedTold : Type 0 where
 
 -- ---- sequences
 
--- From a cleared shelf, whatever sequence of the calls is made: what C sees of each, the number returned, the answer slice and the output, is what eight
--- separate lists of at most four tables would say.
+-- "From a cleared shelf, any sequence of calls answers as eight separate lists of at most four tables would": a shelf of any words is cleared and then
+-- whatever sequence of the calls is made; what C sees of each, the number returned, the answer slice and the output, is what the lists say.
 abbrev pub EightListsSeen : Type 0
-EightListsSeen = (mades : List Made) (seens : List Seen) → MakesAll mades (cleared base) seens → seens ≡ listsSeen four nothing mades
+EightListsSeen =
+    (shelf answer : List ℕ) → length shelf ≡ shelfWords → hasFour answer ≡ true → (mades : List Made) (seens : List Seen)
+    → MakesAll (clears answer ∷ mades) shelf seens → seens ≡ listsSeen four nothing (clears answer ∷ mades)
 
 -- From any words: what C sees of one society's calls is the same if every call that names another society is left out.
 abbrev pub NoNeighbourSeen : Type 0

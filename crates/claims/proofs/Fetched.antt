@@ -74,30 +74,30 @@ module _ (P : (society : ℕ) → Table → Type 0) (count : ℕ → ℕ) where
   each-all (call ∷ calls) new lists a = each-all calls (λ job proposal sent e. new job proposal (inr sent) e) (listsAfter count lists call) (each-after call calls new lists a)
 
 -- ---- where a table came from
-record Came (calls : List Call) (society : ℕ) (t : Table) : Type 0 where
-  job : List ℕ
-  proposal : List ℕ
-  sent : Sent (keep job proposal) calls
-  yes : accepted (checkedOf job proposal .verdict) ≡ true
-  its-society : checkedOf job proposal .society ≡ society
-  is : t ≡ tableFrom (checkedOf job proposal)
+pub record Came (calls : List Call) (society : ℕ) (t : Table) : Type 0 where
+  pub job : List ℕ
+  pub proposal : List ℕ
+  pub sent : Sent (keep job proposal) calls
+  pub yes : accepted (checkedOf job proposal .verdict) ≡ true
+  pub its-society : checkedOf job proposal .society ≡ society
+  pub is : t ≡ tableFrom (checkedOf job proposal)
 
-came : (count : ℕ → ℕ) (calls : List Call) (society : ℕ) → All (Came calls society) (held count calls society)
+pub came : (count : ℕ → ℕ) (calls : List Call) (society : ℕ) → All (Came calls society) (held count calls society)
 came count calls society =
     each-all (Came calls) count calls (λ job proposal sent e. record { job = job; proposal = proposal; sent = sent; yes = e; its-society = refl; is = refl }) nothing (λ s. tt) society
 
--- a fetch that is done gives one of them
-record Gives (P : Table → Type 0) (j : Job) (room : ℕ) (r : Reply) : Type 0 where
-  table : Table
-  holds : P table
-  its-job : table .job ≡ j .number
-  is : r ≡ tableFor j room table
+-- a fetch that does not miss gives one of them
+pub record Gives (P : Table → Type 0) (j : Job) (room : ℕ) (r : Reply) : Type 0 where
+  pub table : Table
+  pub holds : P table
+  pub its-job : table .job ≡ j .number
+  pub is : r ≡ tableFor j room table
 
-fetched-gives : (P : Table → Type 0) (j : Job) (room : ℕ) (ts : List Table) → All P ts → fetched j room ts .answer .number ≡ 0 → Gives P j room (fetched j room ts)
-fetched-gives P j room [] a n = absurd (omega (arith, n))
+pub fetched-gives : (P : Table → Type 0) (j : Job) (room : ℕ) (ts : List Table) → All P ts → (fetched j room ts .answer .number ≡ 12 → ⊥) → Gives P j room (fetched j room ts)
+fetched-gives P j room [] a n = absurd (n refl)
 fetched-gives P j room (t ∷ ts) a n = go (isOf (j .number) t) refl n (fetched-gives P j room ts (a .1))
   where
-    go : (b : Bool) → isOf (j .number) t ≡ b → cond b (tableFor j room t) (fetched j room ts) .answer .number ≡ 0 → (fetched j room ts .answer .number ≡ 0 → Gives P j room (fetched j room ts))
+    go : (b : Bool) → isOf (j .number) t ≡ b → (cond b (tableFor j room t) (fetched j room ts) .answer .number ≡ 12 → ⊥) → ((fetched j room ts .answer .number ≡ 12 → ⊥) → Gives P j room (fetched j room ts))
         → Gives P j room (cond b (tableFor j room t) (fetched j room ts))
     go true e m k = record { table = t; holds = a .0; its-job = eqb-true (t .job) (j .number) e; is = refl }
     go false e m k = k m
@@ -166,6 +166,6 @@ module _ (l : Layout) (ok : Lawful l) where
       go (Done k) e m =
           let j = jobIn job in
           let ts = held (l .count) calls (j .society) in
-          let g = fetched-gives (Came calls (j .society)) j room ts (came (l .count) calls (j .society)) m in
+          let g = fetched-gives (Came calls (j .society)) j room ts (came (l .count) calls (j .society)) (λ z. omega (arith, m, z)) in
           subst (λ (x : Reply). IsAccepted calls job x) (sym (g .is)) (behind calls job room (k, e) (g .table) (g .holds) (g .its-job) (sym (ap (λ (x : Reply). x .answer .number) (g .is)) ∙ m))
       go (Refuses number place) e m = absurd (omega (arith, m, no-other-refusal job [] number place (ap (λ (o : Outcome). onRead o (proposalVerdict (jobIn job) [])) e) .0))

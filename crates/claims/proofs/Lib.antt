@@ -18,6 +18,7 @@ pub mod LastKept
 pub mod NoNeighbour
 pub mod Refusals
 pub mod Fetched
+pub mod NeverSix
 pub mod Layouts
 pub mod ShelfPromises
 pub mod Along

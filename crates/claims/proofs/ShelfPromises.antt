@@ -5,12 +5,13 @@ use Rattle.checked.proofs.Sound.{accepted-read}
 use Rattle.shelf.specs.Shelf.{base}
 use Rattle.shelf.proofs.Spans.{base-lawful}
 use Rattle.claims.specs.Lists.{tableFrom}
-use Rattle.claims.specs.ShelfPromises.{EightLists, NoNeighbour, OwnSpanDecides, OtherSpansStay, LastKeptFetched, FetchedAsChecked, SameJobFetched, LostRefused, FourHeld, FetchedAccepted, RefusedStays}
+use Rattle.claims.specs.ShelfPromises.{EightLists, NoNeighbour, OwnSpanDecides, OtherSpansStay, LastKeptFetched, FetchedAsChecked, SameJobFetched, NeverSix, LostRefused, FourHeld, FetchedAccepted, RefusedStays}
 use Rattle.claims.proofs.EightLists.{lists-of}
 use Rattle.claims.proofs.NoNeighbour.{alone, alone-call, others-stay}
 use Rattle.claims.proofs.AsChecked.{fetched-by-counts}
 use Rattle.claims.proofs.LastKept.{last-of, same-given, lost-of, few-held}
 use Rattle.claims.proofs.Fetched.{fetched-of}
+use Rattle.claims.proofs.NeverSix.{never-six-of}
 use Rattle.claims.proofs.Refusals.{refused-of}
 
 pub eight-lists : EightLists
@@ -36,6 +37,9 @@ pub same-job-fetched : SameJobFetched
 same-job-fetched calls job proposal room k r =
     last-of base base-lawful calls job room (accepted-read job proposal (k .yes) .job-done) (tableFrom (checkedOf job proposal)) (k .last) (k .still)
     ∙ same-given job proposal (k .yes) room r
+
+pub never-six : NeverSix
+never-six = never-six-of base base-lawful
 
 pub lost-refused : LostRefused
 lost-refused = lost-of base base-lawful

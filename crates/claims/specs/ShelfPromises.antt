@@ -77,6 +77,10 @@ SameJobFetched =
     (calls : List Call) (job proposal : List ℕ) (room : ℕ) → KeptUnder calls job job proposal → jobIn job .cells ≤ room
     → said base (shelfAfter base (cleared base) calls) (fetch job room) ≡ given (tableFrom (checkedOf job proposal))
 
+-- 6 is for words that no keep has written: after a clearing no fetch gives it.
+abbrev pub NeverSix : Type 0
+NeverSix = (calls : List Call) (job : List ℕ) (room : ℕ) → said base (shelfAfter base (cleared base) calls) (fetch job room) .answer .number ≡ 6 → ⊥
+
 -- What the rule holds no more, dropped, forgotten or cleared, is refused with 12.
 abbrev pub LostRefused : Type 0
 LostRefused =

@@ -20,14 +20,14 @@ use Rattle.jobs.proofs.Near.{job-read-near}
 use Rattle.jobs.proofs.Readings.{read-jobs-allowed}
 use Rattle.measure.specs.declared.check.Verdict.{Verdict}
 use Rattle.measure.specs.declared.check.Verdict.the-variants.{Accepted, Refused}
-use Rattle.measure.specs.Check.{valuesOf, multipliersOf}
+use Rattle.measure.specs.Check.{valuesOf, multipliersOf, verdictFor}
 use Rattle.slots.specs.declared.Slot.{Slot}
 use Rattle.slots.specs.declared.Slot.the-variants.{At, Nowhere}
 use Rattle.slots.specs.Slots.{headSize, valuesEnd, lowest, hasJob, atSlot}
 use Rattle.checked.specs.Answers.{Reply, refusal, done, answerOf}
 use Rattle.shelf.specs.Shelf.{forgetReply, Layout, base, spanOf, fromSociety, fromWhole, keepReply, fetchFrom, fetchReply, forgotReply}
 use Rattle.checked.specs.Checked.{checkedOf}
-use Rattle.shelf.specs.Fetched.{mostValue, mostMultiplier, lowestAbove, orSix, proposalOf, verdictFor, keptVerdict, handed, sameCounts, fetchTable, keptCells, keptLinks, keptValues, keptMultipliers, fetchAt, fetchIn, onJob}
+use Rattle.shelf.specs.Fetched.{mostValue, mostMultiplier, lowestAbove, orSix, proposalOf, keptVerdict, handed, sameCounts, fetchTable, keptCells, keptLinks, keptValues, keptMultipliers, fetchAt, fetchIn, onJob}
 use Rattle.shelf.specs.Calls.{Call, keep, fetch, forget, clear, wholeSaid, said}
 use Rattle.shelf.proofs.Picked.{and-left, and-right}
 use Rattle.bench.proofs.Small.{Small, verdict-small, check-small}

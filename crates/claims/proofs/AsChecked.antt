@@ -17,10 +17,10 @@ use Rattle.jobs.specs.Job.{Job}
 use Rattle.jobs.specs.Words.{wordAt}
 use Rattle.jobs.specs.Packs.{readJob, readProposal}
 use Rattle.measure.specs.declared.check.Verdict.{Verdict}
-use Rattle.measure.specs.Check.{onRead, proposalVerdict, checkOf}
+use Rattle.measure.specs.Check.{onRead, proposalVerdict, checkOf, verdictFor}
 use Rattle.checked.specs.Answers.{Reply, refusal, accepted}
 use Rattle.checked.specs.Checked.{checkedOf, valuesOf, multipliersOf}
-use Rattle.shelf.specs.Fetched.{mostValue, mostMultiplier, proposalOf, verdictFor, keptVerdict, handed, sameCounts, fetchTable}
+use Rattle.shelf.specs.Fetched.{mostValue, mostMultiplier, proposalOf, keptVerdict, handed, sameCounts, fetchTable}
 use Rattle.checked.proofs.Values.{length-map, map-at}
 use Rattle.shelf.proofs.Picked.{and-left, and-right}
 use Rattle.shelf.proofs.Judged.{allowed-verdict}

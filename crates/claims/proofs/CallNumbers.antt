@@ -24,7 +24,7 @@ use Rattle.measure.specs.declared.check.Verdict.{Verdict}
 use Rattle.measure.specs.declared.check.Verdict.the-variants.{Accepted, Refused}
 use Rattle.measure.specs.Loss.{lossOf}
 use Rattle.measure.specs.Gap.{gapOf}
-use Rattle.measure.specs.Check.{lowestFailing, inBox, holds as kept, verdictOf, valuesOf, multipliersOf, checkOf}
+use Rattle.measure.specs.Check.{lowestFailing, inBox, holds as kept, verdictOf, valuesOf, multipliersOf, checkOf, verdictFor}
 use Rattle.factor.specs.declared.Ending.{Ending}
 use Rattle.factor.specs.declared.Ending.the-variants.{Whole, Thin}
 use Rattle.house.specs.Proposal.{wordsOf, onEnding, solvedOf, proposedOf, onJobRead, proposeOf}
@@ -34,7 +34,7 @@ use Rattle.slots.specs.declared.Slot.the-variants.{At, Nowhere}
 use Rattle.slots.specs.Slots.{headSize, valuesEnd, lowest, hasJob, atSlot}
 use Rattle.checked.specs.Answers.{Reply, refusal, done, answerOf}
 use Rattle.shelf.specs.Shelf.{forgetReply, Layout, base, spanOf, fromSociety, fromWhole, keepReply, fetchFrom, fetchReply, forgotReply}
-use Rattle.shelf.specs.Fetched.{mostValue, mostMultiplier, lowestAbove, orSix, proposalOf, verdictFor, keptVerdict, handed as handedTo, sameCounts, fetchTable, keptCells, keptLinks, keptValues, keptMultipliers, fetchAt, fetchIn, onJob}
+use Rattle.shelf.specs.Fetched.{mostValue, mostMultiplier, lowestAbove, orSix, proposalOf, keptVerdict, handed as handedTo, sameCounts, fetchTable, keptCells, keptLinks, keptValues, keptMultipliers, fetchAt, fetchIn, onJob}
 use Rattle.checked.specs.Checked.{checkedOf}
 use Rattle.shelf.specs.Calls.{Call, keep, fetch, forget, clear, wholeSaid, said}
 use Rattle.bench.specs.Calls.{outcomeOf}

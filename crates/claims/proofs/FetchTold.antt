@@ -24,12 +24,12 @@ use Rattle.jobs.proofs.Readings.{read-jobs-allowed, read-jobs-laid}
 use Rattle.jobs.proofs.Trips.{allowed-proposals-written, proposals-read-back}
 use Rattle.measure.specs.declared.check.Verdict.{Verdict}
 use Rattle.measure.specs.declared.check.Verdict.the-variants.{Accepted, Refused}
-use Rattle.measure.specs.Check.{onRead, proposalVerdict, checkOf}
+use Rattle.measure.specs.Check.{onRead, proposalVerdict, checkOf, verdictFor}
 use Rattle.slots.specs.declared.Slot.{Slot}
 use Rattle.slots.specs.declared.Slot.the-variants.{At, Nowhere}
 use Rattle.slots.specs.Slots.{headSize, valuesEnd, slotWords, lowest, hasJob, atSlot}
 use Rattle.checked.specs.Answers.{Reply, refusal, overwritten, answerOf}
-use Rattle.shelf.specs.Fetched.{mostValue, mostMultiplier, upTo, lowestAbove, orSix, proposalOf, verdictFor, keptVerdict, handed, sameCounts, fetchTable, keptCells, keptLinks, keptValues, keptMultipliers, fetchAt, fetchIn, onJob}
+use Rattle.shelf.specs.Fetched.{mostValue, mostMultiplier, upTo, lowestAbove, orSix, proposalOf, keptVerdict, handed, sameCounts, fetchTable, keptCells, keptLinks, keptValues, keptMultipliers, fetchAt, fetchIn, onJob}
 use Rattle.shelf.specs.Shelf.{base, spanOf, fromWhole, fetchFrom, fetchReply}
 use Rattle.shelf.specs.Calls.{fetch, wholeSaid, said}
 use Rattle.shelf.proofs.Picked.{and-left, and-right}

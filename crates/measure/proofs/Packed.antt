@@ -20,9 +20,8 @@ use Rattle.jobs.proofs.Handed.{held-room, held-part}
 use Rattle.jobs.proofs.Readings.{six-done, read-jobs-allowed, read-jobs-laid, read-words-counted, read-words-few, read-proposals-proposed}
 use Rattle.measure.specs.declared.check.Verdict.{Verdict}
 use Rattle.measure.specs.declared.check.Verdict.the-variants.{Refused}
-use Rattle.measure.specs.Check.{multipliersOf, verdictOf, onRead, proposalVerdict, ifRead, proposalWords, checkOf}
+use Rattle.measure.specs.Check.{multipliersOf, verdictOf, onRead, proposalVerdict, ifRead, proposalWords, checkOf, verdictFor}
 use Rattle.measure.specs.Given.{Given}
-use Rattle.measure.specs.OnWords.{verdictOn}
 
 -- ---- a proposal
 
@@ -63,7 +62,7 @@ module _ {ws : List ℤ} (A : Allowed (jobOf ws)) (L : Laid ws) {n links : ℕ} 
 
     pub proposal-answer : {a : Verdict} → a ≡ verdictOf (jobOf ws) (wordAt (take k l)) (multipliersOf (cellsOf ws) (take k l)) → a ≡ proposalVerdict (jobOf ws) s
     proposal-answer t =
-        t ∙ ap (λ (ps : List ℤ). verdictOn ws ps) head ∙ ap answered (sym (outcome-is ∙ u))
+        t ∙ ap (λ (ps : List ℤ). verdictFor (jobOf ws) ps) head ∙ ap answered (sym (outcome-is ∙ u))
 
 -- ---- a job
 

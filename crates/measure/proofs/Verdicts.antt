@@ -23,7 +23,7 @@ use Rattle.measure.specs.declared.check.Verdict.the-variants.{Accepted, 
 use Rattle.measure.specs.declared.links.Walked.{Walked}
 use Rattle.measure.specs.declared.links.Walked.the-variants.{Broken, Held}
 use Rattle.measure.specs.Gap.{gapOf}
-use Rattle.measure.specs.Check.{lowestFailing, verdictOf}
+use Rattle.measure.specs.Check.{lowestFailing, verdictOf, verdictFor}
 use Rattle.measure.specs.Given.{Given, Smoothing, Losing, Walking, Totalling, Boxes, Judging}
 use Rattle.measure.specs.Running.{Added, runOf, walkOf, onWalked}
 use Rattle.measure.proofs.Places.{read, rate-read, tolerance-fits}
@@ -33,7 +33,7 @@ use Rattle.measure.proofs.Totals.{Runs, run-least, run-small, run-fits,
 use Rattle.measure.proofs.Lowest.{Passed, lowest-all, passed-all}
 use Rattle.measure.proofs.Walks.{links-run, parts-small}
 use Rattle.measure.proofs.Totalled.{cells-run}
-use Rattle.measure.specs.OnWords.{inBoxOn, holdsOn, lossOn, roughOn, smoothOn, cellTermOn, linkTermOn, gapOn, judgedOn, verdictOn, heldOn, partsOn, walkOn}
+use Rattle.measure.specs.OnWords.{inBoxOn, holdsOn, lossOn, roughOn, smoothOn, cellTermOn, linkTermOn, gapOn, judgedOn, heldOn, partsOn, walkOn}
 
 -- ---- a cell's box, in code
 
@@ -58,12 +58,12 @@ verdictBy ws ps outside broken =
     if outside then Refused 7 (lowestFailing (inBoxOn ws ps) (cellsOf ws)) else if broken then Refused 8 (heldOn ws ps) else judgedOn ws ps
 
 verdict-by : (ws ps : List ℤ) (a b : Bool) → ltb (lowestFailing (inBoxOn ws ps) (cellsOf ws)) (cellsOf ws) ≡ a → ltb (heldOn ws ps) (linksOf ws) ≡ b
-    → verdictBy ws ps a b ≡ verdictOn ws ps
+    → verdictBy ws ps a b ≡ verdictFor (jobOf ws) ps
 unfolding verdictOf
 verdict-by ws ps a b e q = ap₂ (verdictBy ws ps) (sym e) (sym q)
 
 module _ {ws ps : List ℤ} (G : Given ws ps) {n cell : ℕ} (en : n ≡ cellsOf ws) (ek : cell ≡ lowestFailing (inBoxOn ws ps) (cellsOf ws)) where
-  pub verdict-outside : cell < n → Refused 7 cell ≡ verdictOn ws ps
+  pub verdict-outside : cell < n → Refused 7 cell ≡ verdictFor (jobOf ws) ps
   verdict-outside h =
       ap (Refused 7) ek
       ∙ verdict-by ws ps true (ltb (heldOn ws ps) (linksOf ws))
@@ -103,11 +103,11 @@ module _ {ws ps : List ℤ} {n : ℕ} (B : Boxes ws ps n) where
       ap (λ (x : ℕ). ltb x (cellsOf ws)) (lowest-all (inBoxOn ws ps) (cellsOf ws) (subst (λ (x : ℕ). Passed (inBoxOn ws ps) x) (B .n-is) (B .boxes)))
       ∙ le-ltb (cellsOf ws) (cellsOf ws) (N.le-refl (cellsOf ws))
 
-  pub verdict-walked : onWalked (walkOn ws ps) (judgedOn ws ps) ≡ verdictOn ws ps
+  pub verdict-walked : onWalked (walkOn ws ps) (judgedOn ws ps) ≡ verdictFor (jobOf ws) ps
   unfolding walkOf
   verdict-walked = go (ltb (heldOn ws ps) (linksOf ws)) refl
     where
-      go : (o : Bool) → ltb (heldOn ws ps) (linksOf ws) ≡ o → onWalked (walkBy ws ps o) (judgedOn ws ps) ≡ verdictOn ws ps
+      go : (o : Bool) → ltb (heldOn ws ps) (linksOf ws) ≡ o → onWalked (walkBy ws ps o) (judgedOn ws ps) ≡ verdictFor (jobOf ws) ps
       go true q = verdict-by ws ps false true in-boxes q
       go false q = verdict-by ws ps false false in-boxes q
 

@@ -55,10 +55,12 @@ abbrev pub onRead : Outcome → Verdict → Verdict
 onRead (Done k) verdict = verdict
 onRead (Refuses number place) verdict = Refused number place
 
+-- The verdict on a proposal's words, and on a proposal pack.
+abbrev pub verdictFor : Job → (ps : List ℤ) → Verdict
+verdictFor j ps = verdictOf j (valuesOf ps) (multipliersOf (j .cells) ps)
+
 abbrev pub proposalVerdict : Job → (proposal : List ℕ) → Verdict
-proposalVerdict j proposal =
-    onRead (readProposal (j .cells) (j .links) proposal .outcome)
-    (verdictOf j (valuesOf (readProposal (j .cells) (j .links) proposal .words)) (multipliersOf (j .cells) (readProposal (j .cells) (j .links) proposal .words)))
+proposalVerdict j proposal = onRead (readProposal (j .cells) (j .links) proposal .outcome) (verdictFor j (readProposal (j .cells) (j .links) proposal .words))
 
 -- The numbers of a proposal pack, read for the counts of a job pack; none where the job is refused.
 abbrev pub ifRead : Outcome → List ℤ → List ℤ

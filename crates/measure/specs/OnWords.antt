@@ -10,7 +10,7 @@ use Rattle.measure.specs.declared.check.Verdict.{Verdict}
 use Rattle.measure.specs.declared.links.Walked.{Walked}
 use Rattle.measure.specs.Loss.{fitOf, roughOf, lossOf}
 use Rattle.measure.specs.Gap.{limit, smoothPart, linkPart, residualOf, cellTermOf, linkTermOf, gapOf}
-use Rattle.measure.specs.Check.{inBox, holds, valuesOf, multipliersOf, judgedOf, verdictOf}
+use Rattle.measure.specs.Check.{inBox, holds, valuesOf, multipliersOf, judgedOf}
 use Rattle.measure.specs.Running.{heldLinks, partsOf, walkOf}
 
 abbrev pub multiplierOn : (ws ps : List ℤ) → (l : ℕ) → ℤ
@@ -61,9 +61,6 @@ gapOn ws ps = gapOf (jobOf ws) (valuesOf ps) (multiplierOn ws ps)
 
 abbrev pub judgedOn : (ws ps : List ℤ) → Verdict
 judgedOn ws ps = judgedOf (jobOf ws) (valuesOf ps) (multiplierOn ws ps)
-
-abbrev pub verdictOn : (ws ps : List ℤ) → Verdict
-verdictOn ws ps = verdictOf (jobOf ws) (valuesOf ps) (multiplierOn ws ps)
 
 -- The links below the lowest broken one, what the first k links add to the cell i, and what a walk over the links answers.
 abbrev pub heldOn : (ws ps : List ℤ) → ℕ

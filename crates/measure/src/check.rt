@@ -19,10 +19,10 @@ ghost use lib.Seq.{sets};
 ghost use Rattle.jobs.specs.Packs.{readJob, readProposal};
 ghost use Rattle.jobs.specs.Words.{cellsOf, linksOf, jobOf};
 ghost use Rattle.jobs.specs.Allowed.{Allowed, Laid};
-ghost use Rattle.measure.specs.Check.{proposalVerdict, proposalWords, checkOf};
+ghost use Rattle.measure.specs.Check.{proposalVerdict, proposalWords, checkOf, verdictFor};
 ghost use Rattle.measure.specs.Given.{Given, Boxes, Judging};
 ghost use Rattle.measure.specs.Running.{Added, onWalked};
-ghost use Rattle.measure.specs.OnWords.{smoothOn, judgedOn, verdictOn, walkOn};
+ghost use Rattle.measure.specs.OnWords.{smoothOn, judgedOn, walkOn};
 
 // What the check answers: the table is accepted with its loss and gap, or refused with a number and a place.
 pub enum Verdict {
@@ -65,9 +65,9 @@ fn weighed(words: &[i64], proposal: &[i64], n: usize) -> Verdict
 }
 
 // The verdict on a proposal's words, n values and then the multipliers, against a job's words.
-pub fn check_words(words: &[i64], proposal: &[i64]) -> Verdict
+fn check_words(words: &[i64], proposal: &[i64]) -> Verdict
     requires { ⌜ Given (now words) (now proposal) ⌝ }
-    ensures { λ a. ⌜ a ≡ verdictOn (now (words .entry)) (now (proposal .entry)) ⌝ }
+    ensures { λ a. ⌜ a ≡ verdictFor (jobOf (now (words .entry))) (now (proposal .entry)) ⌝ }
 {
     let n = words::cells_of(words);
     let cell = boxes::lowest_outside(words, proposal, n);
@@ -80,10 +80,10 @@ pub fn check_words(words: &[i64], proposal: &[i64]) -> Verdict
     weighed(words, proposal, n)
 }
 
-// The verdict on the first k words.
-fn check_first(words: &[i64], proposal: &[i64], k: usize) -> Verdict
+// The verdict on the first k words of a proposal's.
+pub fn check_first(words: &[i64], proposal: &[i64], k: usize) -> Verdict
     requires { ⌜ (k ≤ length (now proposal)) × Given (now words) (take k (now proposal)) ⌝ }
-    ensures { λ a. ⌜ a ≡ verdictOn (now (words .entry)) (take k (now (proposal .entry))) ⌝ }
+    ensures { λ a. ⌜ a ≡ verdictFor (jobOf (now (words .entry))) (take k (now (proposal .entry))) ⌝ }
 {
     check_words(words, &proposal[0..k])
 }

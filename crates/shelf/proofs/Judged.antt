@@ -24,7 +24,8 @@ use Rattle.measure.specs.Given as M
 use Rattle.measure.proofs.Lowest.{lowest-all, passed-all}
 use Rattle.slots.specs.Slots.{headSize, valuesEnd}
 use Rattle.checked.specs.Answers.{refusal}
-use Rattle.shelf.specs.Fetched.{mostValue, mostMultiplier, upTo, lowestAbove, orSix, proposalOf, verdictFor, keptVerdict, handed}
+use Rattle.measure.specs.Check.{verdictFor}
+use Rattle.shelf.specs.Fetched.{mostValue, mostMultiplier, upTo, lowestAbove, orSix, proposalOf, keptVerdict, handed}
 use Rattle.shelf.specs.Given.{Judging}
 use Rattle.checked.proofs.Values.{map-append}
 use Rattle.slots.proofs.Stored.{put-last, mid-last}

@@ -12,7 +12,7 @@ use Rattle.packs.specs.declared.Outcome.the-variants.{Done, Refused as Refuses}
 use Rattle.jobs.specs.Job.{Job}
 use Rattle.measure.specs.declared.check.Verdict.{Verdict}
 use Rattle.measure.specs.declared.check.Verdict.the-variants.{Accepted, Refused}
-use Rattle.measure.specs.Check.{lowestFailing, verdictOf, valuesOf, multipliersOf}
+use Rattle.measure.specs.Check.{lowestFailing, verdictFor}
 use Rattle.slots.specs.Slots.{headSize, valuesEnd, hasJob, lowest, atSlot}
 use Rattle.checked.specs.Answers.{Reply, refusal}
 
@@ -42,9 +42,6 @@ abbrev pub proposalOf : (values multipliers : List ℕ) → List ℤ
 proposalOf values multipliers = map pos (values ++ multipliers)
 
 -- "answering as the check would"
-abbrev pub verdictFor : Job → (ps : List ℤ) → Verdict
-verdictFor j ps = verdictOf j (valuesOf ps) (multipliersOf (j .cells) ps)
-
 unfoldable pub keptVerdict : Job → (values multipliers : List ℕ) → Verdict
 keptVerdict j values multipliers =
     orSix headSize mostValue values (orSix valuesEnd mostMultiplier multipliers (verdictFor j (proposalOf values multipliers)))

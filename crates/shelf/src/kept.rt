@@ -3,12 +3,12 @@ ghost use mathlib.Core.Path.{_≡_};
 ghost use mathlib.Core.List.{_++_, map};
 ghost use Prim.Native.Nat.{_+_, _≤_};
 ghost use lib.IntN.{pos};
-ghost use lib.ListN.{length, drop, take};
+ghost use lib.ListN.{length, drop};
 ghost use Rattle.jobs.specs.Words.{jobOf};
 ghost use Rattle.measure.specs.declared.check.Verdict.the-variants.{Accepted};
-ghost use Rattle.measure.specs.Given.{Given};
 ghost use Rattle.checked.specs.Answers.{overwritten};
-ghost use Rattle.shelf.specs.Fetched.{lowestAbove, proposalOf, verdictFor, keptVerdict, handed};
+ghost use Rattle.measure.specs.Check.{verdictFor};
+ghost use Rattle.shelf.specs.Fetched.{lowestAbove, proposalOf, keptVerdict, handed};
 ghost use Rattle.shelf.specs.Given.{Fetching, Judging};
 use checked::Answer;
 use checked::plain;
@@ -16,7 +16,7 @@ use fields::limits::MULTIPLIER;
 use fields::limits::RATE;
 use jobs::proposal::PROPOSAL_WORDS;
 use measure::check::Verdict;
-use measure::check::check_words;
+use measure::check::check_first;
 use numbers::zigzag::plus;
 use numbers::zigzag::size_of;
 use slots::HEAD;
@@ -67,14 +67,6 @@ fn put_proposal(words: &mut [i64], values: &[u32], multipliers: &[u32])
     copy_signed(&mut words[n..e], multipliers);
 }
 
-// The verdict on the first k words.
-fn check_front(words: &[i64], proposal: &[i64], k: usize) -> Verdict
-    requires { ⌜ (k ≤ length (now proposal)) × Given (now words) (take k (now proposal)) ⌝ }
-    ensures { λ r. ⌜ r ≡ verdictFor (jobOf (now (words .entry))) (take k (now (proposal .entry))) ⌝ }
-{
-    check_words(words, &proposal[0..k])
-}
-
 // The check's verdict on kept numbers that are allowed.
 fn judge(words: &[i64], values: &[u32], multipliers: &[u32]) -> Verdict
     requires { ⌜ Judging (now words) (now values) (now multipliers) ⌝ }
@@ -83,7 +75,7 @@ fn judge(words: &[i64], values: &[u32], multipliers: &[u32]) -> Verdict
     let mut proposal = [0i64; PROPOSAL_WORDS];
     put_proposal(&mut proposal, values, multipliers);
     let k = values.len() + multipliers.len();
-    check_front(words, &proposal, k)
+    check_first(words, &proposal, k)
 }
 
 // The verdict on kept numbers: 6 where one is not allowed, else the check's.

@@ -7,7 +7,7 @@ use lib.IntN.{ℤ}
 use lib.ListN.{length}
 use Rattle.jobs.specs.Words.{jobOf}
 use Rattle.measure.specs.Given.{Given}
-use Rattle.shelf.specs.Fetched.{verdictFor}
+use Rattle.measure.specs.Check.{verdictFor}
 use Rattle.shelf.proofs.Judged.{proposal-front, proposal-inside, judged-given}
 use borrow.Author.Needs.{needs}
 use Rattle.shelf.proofs.kept.judge.Statement.{statement}
@@ -22,11 +22,11 @@ put-proposal-requires c κs = let F = c .before .before .before .pre .fetching i
 add-k : tie.Need-add-k
 add-k c = let F = c .before .before .before .before .before .pre .fetching in omega (arith, F .cells, F .links, F .allowed .cells-few, F .allowed .links-few)
 
-slice-aggregate-check-front : tie.Need-slice-aggregate-check-front
-slice-aggregate-check-front c = search needs
+slice-aggregate-check-first : tie.Need-slice-aggregate-check-first
+slice-aggregate-check-first c = search needs
 
-check-front-requires : tie.Need-check-front-requires
-check-front-requires c κs =
+check-first-requires : tie.Need-check-first-requires
+check-first-requires c κs =
     let start = c .before .before .before .before .before .before in
     let a = start .args in
     let v = a .values .now in
@@ -41,7 +41,7 @@ returns c =
     let v = a .values .now in
     let y = a .multipliers .now in
     let put = c .before .before .before .put-proposal in
-    c .check-front .ensures ∙ ap (λ (ps : List ℤ). verdictFor (jobOf (a .words .now)) ps) (proposal-front v y (put .last .0) _ (put .ensures) (length v + length y) refl)
+    c .check-first .ensures ∙ ap (λ (ps : List ℤ). verdictFor (jobOf (a .words .now)) ps) (proposal-front v y (put .last .0) _ (put .ensures) (length v + length y) refl)
 
 pub judge-spec : {M : Type 1} → statement M
 judge-spec =
@@ -50,6 +50,6 @@ judge-spec =
     slice-aggregate-put-proposal
     put-proposal-requires
     add-k
-    slice-aggregate-check-front
-    check-front-requires
+    slice-aggregate-check-first
+    check-first-requires
     returns)

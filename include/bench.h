@@ -78,7 +78,7 @@
  *   - Each count is true, and each pointer is aligned for its elements.
  *   - No two slices of one call overlap, unless the call only reads both. A pointer to const is only read.
  *   - BENCH_STACK_BYTES of stack are free, or for a job that is no grid BENCH_LINE_STACK_BYTES: a call puts its working room there. In
- *     bytes, as measured: check 20,752, keep 21,952, fetch 20,640, read 17,080, write 17,144; propose 29,128 for a line and 57,976 for a
+ *     bytes, as measured: check 20,736, keep 21,936, fetch 20,640, read 17,080, write 17,144; propose 29,128 for a line and 57,976 for a
  *     grid; forget and clear below 100.
  *   - a call names the right society: every call acts for the society that its job pack or its argument names, whoever makes it.
  *

@@ -20,6 +20,7 @@ use Rattle.jobs.proofs.Near.{job-read-near}
 use Rattle.jobs.proofs.Readings.{read-jobs-allowed}
 use Rattle.measure.specs.declared.check.Verdict.{Verdict}
 use Rattle.measure.specs.declared.check.Verdict.the-variants.{Accepted, Refused}
+<<<<<<< ours
 use Rattle.measure.specs.Check.{valuesOf, multipliersOf, verdictFor}
 use Rattle.slots.specs.declared.Slot.{Slot}
 use Rattle.slots.specs.declared.Slot.the-variants.{At, Nowhere}
@@ -29,10 +30,39 @@ use Rattle.shelf.specs.Shelf.{forgetReply, Layout, base, spanOf, fromSociety, f
 use Rattle.checked.specs.Checked.{checkedOf}
 use Rattle.shelf.specs.Fetched.{mostValue, mostMultiplier, lowestAbove, orSix, proposalOf, keptVerdict, handed, sameCounts, fetchTable, keptCells, keptLinks, keptValues, keptMultipliers, fetchAt, fetchIn, onJob}
 use Rattle.shelf.specs.Calls.{Call, keep, fetch, forget, clear, wholeSaid, said}
+||||||| base
+use Rattle.measure.specs.Check.{valuesOf, multipliersOf}
+use Rattle.shelf.specs.declared.Slot.{Slot}
+use Rattle.shelf.specs.declared.Slot.the-variants.{At, Nowhere}
+use Rattle.shelf.specs.Slots.{Reply, refusal, done, headSize, valuesEnd, lowest, hasJob, atSlot, forgetReply}
+use Rattle.shelf.specs.Checked.{checkedOf, answerOf}
+use Rattle.shelf.specs.Fetched.{mostValue, mostMultiplier, lowestAbove, orSix, proposalOf, verdictFor, keptVerdict, handed, sameCounts, fetchTable, keptCells, keptLinks, keptValues, keptMultipliers, fetchAt, fetchIn, onJob}
+use Rattle.shelf.specs.Shelf.{Layout, base, spanOf, fromSociety, fromWhole, keepReply, fetchFrom, fetchReply, forgotReply}
+use Rattle.shelf.specs.Calls.{Call, keep, fetch, forget, clear, wholeSaid, said}
+=======
+use Rattle.measure.specs.Check.{valuesOf, multipliersOf}
+use Rattle.shelf.specs.declared.Slot.{Slot}
+use Rattle.shelf.specs.declared.Slot.the-variants.{At, Nowhere}
+use Rattle.shelf.specs.Slots.{Reply, refusal, done, headSize, valuesEnd, lowest, hasJob, atSlot, forgetReply}
+use Rattle.shelf.specs.Checked.{checkedOf, answerOf}
+use Rattle.shelf.specs.Fetched.{mostValue, mostMultiplier, lowestAbove, orSix, proposalOf, verdictFor, keptVerdict, handed, sameCounts, fetchTable, keptCells, keptLinks, keptValues, keptMultipliers, fetchAt, fetchIn, onJob}
+use Rattle.shelf.specs.Shelf.{Layout, shelfWords, rowIn, layoutIn, spanOf, fromSociety, fromWhole, keepReply, fetchFrom, fetchReply, forgotReply}
+use Rattle.shelf.specs.Calls.{Own, Call, keep, fetch, forget, own, clear, laidSaid, wholeSaid, said}
+use Rattle.shelf.specs.declared.Row.{Row}
+use Rattle.shelf.specs.declared.Row.the-variants.{Right, Wrong}
+use Rattle.shelf.specs.Counts.{testRow, onRow}
+>>>>>>> theirs
 use Rattle.shelf.proofs.Picked.{and-left, and-right}
+use Rattle.shelf.proofs.Rows.{wrong-place}
 use Rattle.bench.proofs.Small.{Small, verdict-small, check-small}
 
+<<<<<<< ours
 refusal-small : (number place : ℕ) → number ≤ 31 → place ≤ 20920 → Small (refusal number place .answer)
+||||||| base
+refusal-small : (number place : ℕ) → number ≤ 13 → place ≤ 20870 → Small (refusal number place .answer)
+=======
+refusal-small : (number place : ℕ) → number ≤ 22 → place ≤ 20870 → Small (refusal number place .answer)
+>>>>>>> theirs
 refusal-small number place h l = record { number = h; place = l }
 
 -- ---- a fetch
@@ -97,25 +127,36 @@ forget-small w c job s = go (lowest (hasJob job) w c s)
     go (At p) = refusal-small 0 0 (omega arith) (omega arith)
     go Nowhere = refusal-small 12 0 (omega arith) (omega arith)
 
-society-small : (society : ℕ) (f : List ℕ → Reply) (shelf : List ℕ) → ((x : List ℕ) → Small (f x .answer)) → Small (fromSociety base society f shelf .answer)
+society-small : (l : Layout) (society : ℕ) (f : List ℕ → Reply) (shelf : List ℕ) → ((x : List ℕ) → Small (f x .answer)) → Small (fromSociety l society f shelf .answer)
 unfolding fromSociety
-society-small society f shelf k = go (leb society 7)
+society-small l society f shelf k = go (leb society 7)
   where
-    go : (t : Bool) → Small (cond t (f (spanOf base society shelf)) (refusal 11 0) .answer)
-    go true = k (spanOf base society shelf)
+    go : (t : Bool) → Small (cond t (f (spanOf l society shelf)) (refusal 11 0) .answer)
+    go true = k (spanOf l society shelf)
     go false = refusal-small 11 0 (omega arith) (omega arith)
 
-whole-small : (shelf : List ℕ) (call : Call) → Small (wholeSaid base shelf call .answer)
+laid-small : (l : Layout) (shelf : List ℕ) (call : Own) → Small (laidSaid l shelf call .answer)
 unfolding keepReply checkedOf forgotReply
-whole-small shelf (keep job proposal) = check-small job proposal
-whole-small shelf (fetch job room) = fetch-small base job room shelf
-whole-small shelf (forget society job) = society-small society (forgetReply (base .words) (base .count society) job) shelf (forget-small (base .words) (base .count society) job)
-whole-small shelf clear = refusal-small 0 0 (omega arith) (omega arith)
+laid-small l shelf (keep job proposal) = check-small job proposal
+laid-small l shelf (fetch job room) = fetch-small l job room shelf
+laid-small l shelf (forget society job) = society-small l society (forgetReply (l .words) (l .count society) job) shelf (forget-small (l .words) (l .count society) job)
 
-pub said-small : (shelf : List ℕ) (call : Call) → Small (said base shelf call .answer)
-unfolding fromWhole
-said-small shelf call = go (eqb (length shelf) (base .total))
+-- ---- by the test of a row
+row-small : (row : List ℕ) (r : Reply) → Small (r .answer) → Small (onRow (testRow row) r (λ place. refusal 22 place) .answer)
+row-small row r s = go (testRow row) refl
   where
-    go : (t : Bool) → Small (cond t (wholeSaid base shelf call) (refusal 13 (base .total)) .answer)
+    go : (o : Row) → testRow row ≡ o → Small (onRow o r (λ place. refusal 22 place) .answer)
+    go Right e = s
+    go (Wrong place) e = refusal-small 22 place (omega arith) (omega (arith, wrong-place row place e))
+
+whole-small : (shelf : List ℕ) (call : Call) → Small (wholeSaid shelf call .answer)
+whole-small shelf (own call) = row-small (rowIn shelf) (laidSaid (layoutIn shelf) shelf call) (laid-small (layoutIn shelf) shelf call)
+whole-small shelf (clear counts) = row-small (rowIn counts) done (refusal-small 0 0 (omega arith) (omega arith))
+
+pub said-small : (shelf : List ℕ) (call : Call) → Small (said shelf call .answer)
+unfolding fromWhole
+said-small shelf call = go (eqb (length shelf) shelfWords)
+  where
+    go : (t : Bool) → Small (cond t (wholeSaid shelf call) (refusal 13 shelfWords) .answer)
     go true = whole-small shelf call
-    go false = refusal-small 13 (base .total) (omega arith) (omega arith)
+    go false = refusal-small 13 shelfWords (omega arith) (omega arith)

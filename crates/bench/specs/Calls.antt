@@ -10,10 +10,23 @@ use Rattle.packs.specs.Writing.{Written, roomed}
 use Rattle.jobs.specs.Packs.{readJobInto, writeJob}
 use Rattle.measure.specs.Check.{checkOf}
 use Rattle.house.specs.Proposal.{proposeOf}
+<<<<<<< ours
 use Rattle.checked.specs.declared.Answer.{Answer}
 use Rattle.checked.specs.Answers.{refusal, overwritten, answerOf}
 use Rattle.shelf.specs.Shelf.{base}
 use Rattle.shelf.specs.Calls.{Call, fetch, after, said}
+||||||| base
+use Rattle.shelf.specs.declared.Answer.{Answer}
+use Rattle.shelf.specs.Slots.{refusal, overwritten}
+use Rattle.shelf.specs.Checked.{answerOf}
+use Rattle.shelf.specs.Shelf.{base}
+use Rattle.shelf.specs.Calls.{Call, fetch, after, said}
+=======
+use Rattle.shelf.specs.declared.Answer.{Answer}
+use Rattle.shelf.specs.Slots.{refusal, overwritten}
+use Rattle.shelf.specs.Checked.{answerOf}
+use Rattle.shelf.specs.Calls.{Call, own, fetch, after, said}
+>>>>>>> theirs
 use Rattle.bench.specs.Answers.{Says}
 
 -- ---- a proposal checked, and one made
@@ -47,9 +60,9 @@ WriteSays words out answer = WriterSays (roomed (length out) (writeJob words)) o
 
 -- Keep, forget and clear change the shelf and write to no output.
 abbrev pub ShelfSays : (call : Call) → (shelf answer : List ℕ) → (returned : ℕ) (answered left : List ℕ) → Type 0
-ShelfSays call shelf answer = Says (said base shelf call .answer) answer shelf (after base shelf call)
+ShelfSays call shelf answer = Says (said shelf call .answer) answer shelf (after shelf call)
 
 -- Fetch hands out its values in front of the words that were lent.
 abbrev pub FetchSays : (shelf job out answer : List ℕ) → (returned : ℕ) (answered left : List ℕ) → Type 0
 FetchSays shelf job out answer =
-    Says (said base shelf (fetch job (length out)) .answer) answer out (overwritten out (said base shelf (fetch job (length out)) .values))
+    Says (said shelf (own (fetch job (length out))) .answer) answer out (overwritten out (said shelf (own (fetch job (length out))) .values))

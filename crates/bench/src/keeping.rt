@@ -1,5 +1,5 @@
 // The four calls on a shelf.
-ghost use Rattle.shelf.specs.Calls.{keep, forget, clear};
+ghost use Rattle.shelf.specs.Calls.{own, keep, forget, clear};
 ghost use Rattle.bench.specs.Calls.{ShelfSays, FetchSays};
 use crate::answers::ANSWER_WORDS;
 use crate::answers::NO_ANSWER;
@@ -13,7 +13,7 @@ pub extern "C" fn bench_keep(
     proposal: &[u8],
     answer: &mut [u64],
 ) -> u64
-    ensures { λ r. ⌜ ShelfSays (keep (now (job .entry)) (now (proposal .entry))) (now (shelf .entry)) (now (answer .entry)) r (now (answer .exit)) (now (shelf .exit)) ⌝ }
+    ensures { λ r. ⌜ ShelfSays (own (keep (now (job .entry)) (now (proposal .entry)))) (now (shelf .entry)) (now (answer .entry)) r (now (answer .exit)) (now (shelf .exit)) ⌝ }
 {
     if answer.len() != ANSWER_WORDS {
         return NO_ANSWER;
@@ -37,7 +37,7 @@ pub extern "C" fn bench_fetch(shelf: &[u32], job: &[u8], out: &mut [u32], answer
 // Forget the table that is kept for a society under a job's number.
 #[no_mangle]
 pub extern "C" fn bench_forget(shelf: &mut [u32], society: u32, job: u32, answer: &mut [u64]) -> u64
-    ensures { λ r. ⌜ ShelfSays (forget society job) (now (shelf .entry)) (now (answer .entry)) r (now (answer .exit)) (now (shelf .exit)) ⌝ }
+    ensures { λ r. ⌜ ShelfSays (own (forget society job)) (now (shelf .entry)) (now (answer .entry)) r (now (answer .exit)) (now (shelf .exit)) ⌝ }
 {
     if answer.len() != ANSWER_WORDS {
         return NO_ANSWER;
@@ -46,14 +46,14 @@ pub extern "C" fn bench_forget(shelf: &mut [u32], society: u32, job: u32, answer
     give(answer, a)
 }
 
-// Every word of the shelf becomes 0.
+// The row becomes the counts, and every word of their spans 0.
 #[no_mangle]
-pub extern "C" fn bench_clear(shelf: &mut [u32], answer: &mut [u64]) -> u64
-    ensures { λ r. ⌜ ShelfSays clear (now (shelf .entry)) (now (answer .entry)) r (now (answer .exit)) (now (shelf .exit)) ⌝ }
+pub extern "C" fn bench_clear(shelf: &mut [u32], counts: &[u32; 8], answer: &mut [u64]) -> u64
+    ensures { λ r. ⌜ ShelfSays (clear (now (counts .entry))) (now (shelf .entry)) (now (answer .entry)) r (now (answer .exit)) (now (shelf .exit)) ⌝ }
 {
     if answer.len() != ANSWER_WORDS {
         return NO_ANSWER;
     }
-    let a = shelf::clear(shelf);
+    let a = shelf::clear(shelf, counts);
     give(answer, a)
 }

@@ -10,9 +10,18 @@ use lib.ListN.{length, drop}
 use Rattle.packs.specs.Writing.{roomed}
 use Rattle.jobs.specs.Packs.{readJobInto, writeJob}
 use Rattle.measure.specs.Check.{checkOf}
+<<<<<<< ours
 use Rattle.checked.specs.declared.Answer.{Answer}
 use Rattle.shelf.specs.Shelf.{base}
 use Rattle.shelf.specs.Calls.{keep, fetch, forget, clear, after, said}
+||||||| base
+use Rattle.shelf.specs.declared.Answer.{Answer}
+use Rattle.shelf.specs.Shelf.{base}
+use Rattle.shelf.specs.Calls.{keep, fetch, forget, clear, after, said}
+=======
+use Rattle.shelf.specs.declared.Answer.{Answer}
+use Rattle.shelf.specs.Calls.{own, keep, fetch, forget, clear, after, said}
+>>>>>>> theirs
 use Rattle.house.specs.Proposal.{proposeOf}
 use Rattle.shelf.proofs.Spans.{base-lawful}
 use Rattle.bench.specs.Answers.{codeOf, answerWords, hasFour, Says}
@@ -112,12 +121,12 @@ numbered = record {
   read = λ job words answer r a x says. numbered-by (read-small (length words) job) says (13 ∷ []) 5 (inl refl) (read-number (length words) job);
   write = λ words out answer r a x says. numbered-by (write-small (length out) words) says (13 ∷ []) 5 (inl refl) (write-number (length out) words);
   keep = λ job proposal shelf answer r a x says.
-      numbered-by (said-small shelf (keep job proposal)) says (13 ∷ []) 9 (inl refl) (keep-number job proposal shelf);
+      numbered-by (said-small shelf (own (keep job proposal))) says (13 ∷ 22 ∷ []) 9 (inl refl) (keep-number job proposal shelf);
   fetch = λ shelf job out answer r a x says.
-      numbered-by (said-small shelf (fetch job (length out))) says (12 ∷ 13 ∷ []) 9 (inr (inl refl)) (fetch-number shelf job (length out));
+      numbered-by (said-small shelf (own (fetch job (length out)))) says (12 ∷ 13 ∷ 22 ∷ []) 9 (inr (inl refl)) (fetch-number shelf job (length out));
   forget = λ society job shelf answer r a x says.
-      numbered-by (said-small shelf (forget society job)) says (11 ∷ 12 ∷ 13 ∷ []) 0 (inr (inr (inl refl))) (forget-number shelf society job);
-  clear = λ shelf answer r a x says. numbered-by (said-small shelf clear) says (13 ∷ []) 0 (inl refl) (clear-number shelf);
+      numbered-by (said-small shelf (own (forget society job))) says (11 ∷ 12 ∷ 13 ∷ 22 ∷ []) 0 (inr (inr (inl refl))) (forget-number shelf society job);
+  clear = λ counts shelf answer r a x says. numbered-by (said-small shelf (clear counts)) says (13 ∷ 22 ∷ []) 0 (inl refl) (clear-number counts shelf);
 }
 
 pub refusals-kept : RefusalsKept
@@ -130,7 +139,7 @@ refusals-kept = record {
   write = λ words out answer r a x says n. kept-by (write-small (length out) words) says (write-kept (length out) (writeJob words) out) n;
   on-shelf = λ call shelf answer r a x says n. kept-by (said-small shelf call) says (shelf-kept call shelf) n;
   fetch = λ shelf job out answer r a x says n.
-      kept-by (said-small shelf (fetch job (length out))) says (fetch-kept (fetch job (length out)) shelf out) n;
+      kept-by (said-small shelf (own (fetch job (length out)))) says (fetch-kept (own (fetch job (length out))) shelf out) n;
 }
 
 pub rests-kept : RestsKept
@@ -145,9 +154,9 @@ rests-kept = record {
       let made = roomed (length out) (writeJob words) in
       rest-by (write-small (length out) words) says (λ m e. beyond-made (made .bytes) out m (omega (arith, e, write-within (length out) words))) z;
   fetch = λ shelf job out answer r a x says z.
-      let call = fetch job (length out) in
+      let call = own (fetch job (length out)) in
       rest-by (said-small shelf call) says
-      (λ m e. beyond-values (said base shelf call .values) out m (omega (arith, e, fetch-within shelf job (length out)))) z;
+      (λ m e. beyond-values (said shelf call .values) out m (omega (arith, e, fetch-within shelf job (length out)))) z;
 }
 
 pub accepted-told : AcceptedTold
@@ -156,7 +165,7 @@ accepted-told = record {
       let t = told-by (check-small job proposal) says z in
       told-of job proposal a (checkOf job proposal) refl (t .0) (t .1);
   keep = λ job proposal shelf answer r a x says z.
-      let t = told-by (said-small shelf (keep job proposal)) says z in
+      let t = told-by (said-small shelf (own (keep job proposal))) says z in
       kept-told job proposal shelf a (t .0) (t .1);
   fetch = λ shelf job out answer r a x says z.
       let t = told-by (said-small shelf (fetch job (length out))) says z in

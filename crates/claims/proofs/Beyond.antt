@@ -30,8 +30,11 @@ use Rattle.slots.specs.declared.Slot.the-variants.{At, Nowhere}
 use Rattle.slots.specs.Slots.{lowest, hasJob, atSlot}
 use Rattle.checked.specs.Answers.{Reply, refusal, overwritten}
 use Rattle.shelf.specs.Fetched.{keptVerdict, handed as handedTo, sameCounts, fetchTable, keptCells, keptLinks, keptValues, keptMultipliers, fetchAt, fetchIn, onJob}
-use Rattle.shelf.specs.Shelf.{Layout, base, spanOf, fromWhole, fetchFrom, fetchReply}
-use Rattle.shelf.specs.Calls.{fetch, wholeSaid, said}
+use Rattle.shelf.specs.Shelf.{Layout, shelfWords, rowIn, layoutIn, spanOf, fromWhole, fetchFrom, fetchReply}
+use Rattle.shelf.specs.Calls.{own, fetch, laidSaid, said}
+use Rattle.shelf.specs.declared.Row.{Row}
+use Rattle.shelf.specs.declared.Row.the-variants.{Right, Wrong}
+use Rattle.shelf.specs.Counts.{testRow, onRow}
 use Rattle.bench.specs.Calls.{outcomeOf}
 use Rattle.claims.proofs.Unwritten.{handed}
 
@@ -144,10 +147,11 @@ from-handed l job room shelf = go (readJob job .outcome)
     go (Done k) = in-handed (l .words) (l .count (jobOf (readJob job .words) .society)) (jobOf (readJob job .words)) room (spanOf l (jobOf (readJob job .words) .society) shelf)
     go (Refused number place) = omega arith
 
-pub fetch-within : (shelf job : List ℕ) (room : ℕ) → Handed (said base shelf (fetch job room))
+pub fetch-within : (shelf job : List ℕ) (room : ℕ) → Handed (said shelf (own (fetch job room)))
 unfolding fromWhole
-fetch-within shelf job room = go (eqb (length shelf) (base .total))
+fetch-within shelf job room = go (eqb (length shelf) shelfWords) (testRow (rowIn shelf))
   where
-    go : (t : Bool) → Handed (cond t (wholeSaid base shelf (fetch job room)) (refusal 13 (base .total)))
-    go true = from-handed base job room shelf
-    go false = omega arith
+    go : (t : Bool) (o : Row) → Handed (cond t (onRow o (laidSaid (layoutIn shelf) shelf (fetch job room)) (λ place. refusal 22 place)) (refusal 13 shelfWords))
+    go true Right = from-handed (layoutIn shelf) job room shelf
+    go true (Wrong place) = omega arith
+    go false o = omega arith

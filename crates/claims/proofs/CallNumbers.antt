@@ -1,6 +1,6 @@
 -- Which numbers each call's answer can have: document 01's tests, one after another.
 use Prim.Native.Nat.{ℕ, _+_, _*_, _≤_}
-use mathlib.Core.Path.{_≡_, refl}
+use mathlib.Core.Path.{_≡_, refl, sym, subst}
 use mathlib.Core.Logic.{inl, inr}
 use mathlib.Core.Bool.{Bool, true, false, cond}
 use mathlib.Core.List.{List, [], _∷_}
@@ -29,6 +29,7 @@ use Rattle.factor.specs.declared.Ending.{Ending}
 use Rattle.factor.specs.declared.Ending.the-variants.{Whole, Thin}
 use Rattle.house.specs.Proposal.{wordsOf, onEnding, solvedOf, proposedOf, onJobRead, proposeOf}
 use Rattle.house.proofs.Writable.{house-writes}
+<<<<<<< ours
 use Rattle.slots.specs.declared.Slot.{Slot}
 use Rattle.slots.specs.declared.Slot.the-variants.{At, Nowhere}
 use Rattle.slots.specs.Slots.{headSize, valuesEnd, lowest, hasJob, atSlot}
@@ -37,6 +38,26 @@ use Rattle.shelf.specs.Shelf.{forgetReply, Layout, base, spanOf, fromSociety, f
 use Rattle.shelf.specs.Fetched.{mostValue, mostMultiplier, lowestAbove, orSix, proposalOf, keptVerdict, handed as handedTo, sameCounts, fetchTable, keptCells, keptLinks, keptValues, keptMultipliers, fetchAt, fetchIn, onJob}
 use Rattle.checked.specs.Checked.{checkedOf}
 use Rattle.shelf.specs.Calls.{Call, keep, fetch, forget, clear, wholeSaid, said}
+||||||| base
+use Rattle.shelf.specs.declared.Slot.{Slot}
+use Rattle.shelf.specs.declared.Slot.the-variants.{At, Nowhere}
+use Rattle.shelf.specs.Slots.{Reply, refusal, done, headSize, valuesEnd, lowest, hasJob, atSlot, forgetReply}
+use Rattle.shelf.specs.Fetched.{mostValue, mostMultiplier, lowestAbove, orSix, proposalOf, verdictFor, keptVerdict, handed as handedTo, sameCounts, fetchTable, keptCells, keptLinks, keptValues, keptMultipliers, fetchAt, fetchIn, onJob}
+use Rattle.shelf.specs.Checked.{checkedOf, answerOf}
+use Rattle.shelf.specs.Shelf.{Layout, base, spanOf, fromSociety, fromWhole, keepReply, fetchFrom, fetchReply, forgotReply}
+use Rattle.shelf.specs.Calls.{Call, keep, fetch, forget, clear, wholeSaid, said}
+=======
+use Rattle.shelf.specs.declared.Slot.{Slot}
+use Rattle.shelf.specs.declared.Slot.the-variants.{At, Nowhere}
+use Rattle.shelf.specs.Slots.{Reply, refusal, done, headSize, valuesEnd, lowest, hasJob, atSlot, forgetReply}
+use Rattle.shelf.specs.Fetched.{mostValue, mostMultiplier, lowestAbove, orSix, proposalOf, verdictFor, keptVerdict, handed as handedTo, sameCounts, fetchTable, keptCells, keptLinks, keptValues, keptMultipliers, fetchAt, fetchIn, onJob}
+use Rattle.shelf.specs.Checked.{checkedOf, answerOf}
+use Rattle.shelf.specs.Shelf.{Layout, shelfWords, rowIn, layoutIn, spanOf, fromSociety, fromWhole, keepReply, fetchFrom, fetchReply, forgotReply}
+use Rattle.shelf.specs.Calls.{Call, keep, fetch, forget, own, clear, laidSaid, wholeSaid, said}
+use Rattle.shelf.specs.declared.Row.{Row}
+use Rattle.shelf.specs.declared.Row.the-variants.{Right, Wrong}
+use Rattle.shelf.specs.Counts.{testRow, onRow}
+>>>>>>> theirs
 use Rattle.bench.specs.Calls.{outcomeOf}
 use Rattle.claims.specs.BenchPromises.{Among}
 use Rattle.claims.proofs.Unwritten.{handed}
@@ -113,13 +134,13 @@ propose-number room job = go (readJob job .outcome) refl (job-read-near job)
 -- ---- the shelf
 
 abbrev Held : Reply → Type 0
-Held r = Among (11 ∷ 12 ∷ 13 ∷ []) 0 (r .answer .number)
+Held r = Among (11 ∷ 12 ∷ 13 ∷ 22 ∷ []) 0 (r .answer .number)
 
-held-done : Among (11 ∷ 12 ∷ 13 ∷ []) 0 0
-held-done = inr (inr (inr (omega arith)))
+held-done : Among (11 ∷ 12 ∷ 13 ∷ 22 ∷ []) 0 0
+held-done = inr (inr (inr (inr (omega arith))))
 
 abbrev Presented : Reply → Type 0
-Presented r = Among (12 ∷ 13 ∷ []) 9 (r .answer .number)
+Presented r = Among (12 ∷ 13 ∷ 22 ∷ []) 9 (r .answer .number)
 
 abbrev Nine : Verdict → Type 0
 Nine v = answerOf v .number ≤ 9
@@ -150,11 +171,11 @@ kept-number j v y =
     (six-number valuesEnd mostMultiplier y last (verdict-number j (valuesOf (proposalOf v y)) (multipliersOf (j .cells) (proposalOf v y))))
 
 handed-out-number : (room : ℕ) (v : List ℕ) (w : Verdict) → Nine w → Presented (handedTo room v w)
-handed-out-number room v (Refused number place) h = inr (inr h)
+handed-out-number room v (Refused number place) h = inr (inr (inr h))
 handed-out-number room v (Accepted F G) h = go (leb (length v) room)
   where
     go : (b : Bool) → Presented (cond b (record { answer = record { number = 0; place = length v; loss = natAbs F; gap = natAbs G }; values = v }) (refusal 13 (length v)))
-    go true = inr (inr (omega arith))
+    go true = inr (inr (inr (omega arith)))
     go false = inr (inl refl)
 
 table-number : (j : Job) (room cells links : ℕ) (v y : List ℕ) → Presented (fetchTable j room cells links v y)
@@ -179,7 +200,7 @@ fetch-from-number l job room shelf = go (readJob job .outcome) (job-read-near jo
   where
     go : (o : Outcome) → Near 20920 o → Presented (onJob o (fetchFrom l (jobOf (readJob job .words)) room shelf))
     go (Done k) h = fetch-in-number (l .words) (l .count (jobOf (readJob job .words) .society)) (jobOf (readJob job .words)) room (spanOf l (jobOf (readJob job .words) .society) shelf)
-    go (Refuses number place) h = inr (inr (omega (arith, h .1)))
+    go (Refuses number place) h = inr (inr (inr (omega (arith, h .1))))
 
 forget-in-number : (w c job : ℕ) (s : List ℕ) → Held (forgetReply w c job s)
 unfolding forgetReply
@@ -189,36 +210,48 @@ forget-in-number w c job s = go (lowest (hasJob job) w c s)
     go (At p) = held-done
     go Nowhere = inr (inl refl)
 
-society-number : (society : ℕ) (f : List ℕ → Reply) (shelf : List ℕ) → ((x : List ℕ) → Held (f x)) → Held (fromSociety base society f shelf)
+society-number : (l : Layout) (society : ℕ) (f : List ℕ → Reply) (shelf : List ℕ) → ((x : List ℕ) → Held (f x)) → Held (fromSociety l society f shelf)
 unfolding fromSociety
-society-number society f shelf k = go (leb society 7)
+society-number l society f shelf k = go (leb society 7)
   where
-    go : (b : Bool) → Held (cond b (f (spanOf base society shelf)) (refusal 11 0))
-    go true = k (spanOf base society shelf)
+    go : (b : Bool) → Held (cond b (f (spanOf l society shelf)) (refusal 11 0))
+    go true = k (spanOf l society shelf)
     go false = inl refl
 
--- 13, where the shelf has another length, or what the call says
-whole-number : (others : List ℕ) (most : ℕ) (shelf : List ℕ) (call : Call) → Among others most 13 → Among others most (wholeSaid base shelf call .answer .number)
-    → Among others most (said base shelf call .answer .number)
+-- 13, where the shelf has another length, 22 where a row is wrong, or what the call says
+said-number : (others : List ℕ) (most : ℕ) (shelf : List ℕ) (call : Call) (row : List ℕ) (r : Reply) → wholeSaid shelf call ≡ onRow (testRow row) r (λ place. refusal 22 place)
+    → Among others most 13 → Among others most 22 → Among others most (r .answer .number) → Among others most (said shelf call .answer .number)
 unfolding fromWhole
-whole-number others most shelf call t h = go (eqb (length shelf) (base .total))
+said-number others most shelf call row r e t u h = go (eqb (length shelf) shelfWords)
   where
-    go : (b : Bool) → Among others most (cond b (wholeSaid base shelf call) (refusal 13 (base .total)) .answer .number)
-    go true = h
+    tested : (o : Row) → Among others most (onRow o r (λ place. refusal 22 place) .answer .number)
+    tested Right = h
+    tested (Wrong place) = u
+
+    go : (b : Bool) → Among others most (cond b (wholeSaid shelf call) (refusal 13 shelfWords) .answer .number)
+    go true = subst (λ (x : Reply). Among others most (x .answer .number)) (sym e) (tested (testRow row))
     go false = t
 
-pub keep-number : (job proposal shelf : List ℕ) → Among (13 ∷ []) 9 (said base shelf (keep job proposal) .answer .number)
+pub keep-number : (job proposal shelf : List ℕ) → Among (13 ∷ 22 ∷ []) 9 (said shelf (own (keep job proposal)) .answer .number)
 unfolding keepReply checkedOf
-keep-number job proposal shelf = whole-number (13 ∷ []) 9 shelf (keep job proposal) (inl refl) (check-number job proposal)
+keep-number job proposal shelf =
+    said-number (13 ∷ 22 ∷ []) 9 shelf (own (keep job proposal)) (rowIn shelf) (laidSaid (layoutIn shelf) shelf (keep job proposal)) refl (inl refl) (inr (inl refl)) (nine (check-number job proposal))
+  where
+    nine : Among (13 ∷ []) 9 (answerOf (checkOf job proposal) .number) → Among (13 ∷ 22 ∷ []) 9 (answerOf (checkOf job proposal) .number)
+    nine (inl e) = inl e
+    nine (inr h) = inr (inr h)
 
-pub fetch-number : (shelf job : List ℕ) (room : ℕ) → Presented (said base shelf (fetch job room))
-fetch-number shelf job room = whole-number (12 ∷ 13 ∷ []) 9 shelf (fetch job room) (inr (inl refl)) (fetch-from-number base job room shelf)
+pub fetch-number : (shelf job : List ℕ) (room : ℕ) → Presented (said shelf (own (fetch job room)))
+fetch-number shelf job room =
+    said-number (12 ∷ 13 ∷ 22 ∷ []) 9 shelf (own (fetch job room)) (rowIn shelf) (laidSaid (layoutIn shelf) shelf (fetch job room)) refl (inr (inl refl)) (inr (inr (inl refl)))
+    (fetch-from-number (layoutIn shelf) job room shelf)
 
-pub forget-number : (shelf : List ℕ) (society job : ℕ) → Held (said base shelf (forget society job))
+pub forget-number : (shelf : List ℕ) (society job : ℕ) → Held (said shelf (own (forget society job)))
 unfolding forgotReply
 forget-number shelf society job =
-    whole-number (11 ∷ 12 ∷ 13 ∷ []) 0 shelf (forget society job) (inr (inr (inl refl)))
-    (society-number society (forgetReply (base .words) (base .count society) job) shelf (forget-in-number (base .words) (base .count society) job))
+    let l = layoutIn shelf in
+    said-number (11 ∷ 12 ∷ 13 ∷ 22 ∷ []) 0 shelf (own (forget society job)) (rowIn shelf) (laidSaid l shelf (forget society job)) refl (inr (inr (inl refl))) (inr (inr (inr (inl refl))))
+    (society-number l society (forgetReply (l .words) (l .count society) job) shelf (forget-in-number (l .words) (l .count society) job))
 
-pub clear-number : (shelf : List ℕ) → Among (13 ∷ []) 0 (said base shelf clear .answer .number)
-clear-number shelf = whole-number (13 ∷ []) 0 shelf clear (inl refl) (inr (omega arith))
+pub clear-number : (counts shelf : List ℕ) → Among (13 ∷ 22 ∷ []) 0 (said shelf (clear counts) .answer .number)
+clear-number counts shelf = said-number (13 ∷ 22 ∷ []) 0 shelf (clear counts) (rowIn counts) done refl (inl refl) (inr (inl refl)) (inr (inr (omega arith)))

@@ -1,5 +1,5 @@
--- Eight lists (document 01, "The shelf"): from a cleared shelf, any sequence of calls answers as eight separate lists of at most four tables would.
--- Why: each span is its list laid out in order, then zeros; every call keeps that so, and says what the list says.
+-- Eight lists (document 01, "The shelf"): from a cleared shelf, any sequence of calls answers as eight separate lists of at most as many tables as each
+-- society's count would. Why: each span is its list laid out in order, then zeros; every call keeps that so, and says what the list says.
 use mathlib.Core.Path.{_≡_, refl, sym, ap, _∙_, subst}
 use mathlib.Core.Bool.{Bool, true, false, cond}
 use mathlib.Core.List.{List, [], _∷_, _++_}
@@ -14,18 +14,44 @@ use Rattle.packs.specs.declared.Outcome.the-variants.{Done, Refused as Refuses}
 use Rattle.jobs.specs.Words.{jobOf}
 use Rattle.jobs.specs.Packs.{readJob}
 use Rattle.jobs.proofs.Readings.{read-jobs-allowed}
+<<<<<<< ours
 use Rattle.slots.specs.Slots.{slotWords, keptIn, forgotIn}
 use Rattle.checked.specs.Answers.{Reply, refusal, accepted}
 use Rattle.shelf.specs.Shelf.{forgetReply, Layout, slotFrom, spanOf, sizeOf, onSociety, fromSociety, keptShelf, fetchFrom, fetchReply, forgotShelf, forgotReply, cleared}
+||||||| base
+use Rattle.shelf.specs.Slots.{Reply, refusal, leastWords, keptIn, forgotIn, forgetReply}
+=======
+use Rattle.shelf.specs.declared.Row.{Row}
+use Rattle.shelf.specs.declared.Row.the-variants.{Right, Wrong}
+use Rattle.shelf.specs.Counts.{countIn, testRow, onRow}
+use Rattle.shelf.specs.Slots.{Reply, refusal, done, leastWords, keptIn, forgotIn, forgetReply}
+>>>>>>> theirs
 use Rattle.shelf.specs.Fetched.{fetchIn, onJob}
+<<<<<<< ours
 use Rattle.checked.specs.Checked.{Checked, checkedOf}
 use Rattle.shelf.specs.Calls.{Call, keep, fetch, forget, clear, wholeAfter, wholeSaid, after, said, shelfRun}
 use Rattle.slots.proofs.Steps.{slot-length}
 use Rattle.shelf.proofs.Lengths.{on-whole, from-whole}
+||||||| base
+use Rattle.shelf.specs.Checked.{Checked, checkedOf, accepted}
+use Rattle.shelf.specs.Shelf.{Layout, slotFrom, spanOf, sizeOf, onSociety, fromSociety, keptShelf, fetchFrom, fetchReply, forgotShelf, forgotReply, cleared}
+use Rattle.shelf.specs.Calls.{Call, keep, fetch, forget, clear, wholeAfter, wholeSaid, after, said, shelfRun}
+use Rattle.shelf.proofs.Moves.{slot-length}
+use Rattle.shelf.proofs.Lengths.{on-whole, from-whole}
+=======
+use Rattle.shelf.specs.Checked.{Checked, checkedOf, accepted}
+use Rattle.shelf.specs.Shelf.{Layout, slotWords, shelfWords, rowed, rowIn, slotFrom, spanOf, sizeOf, onSociety, fromSociety, keptShelf, fetchFrom, fetchReply, forgotShelf, forgotReply, cleared}
+use Rattle.shelf.specs.Calls.{Own, Call, keep, fetch, forget, own, clear, laidAfter, laidSaid, after, said, shelfRun}
+use Rattle.shelf.proofs.Moves.{slot-length}
+use Rattle.shelf.proofs.Lengths.{said-right, after-right, clear-right, clear-wrong}
+use Rattle.shelf.proofs.Rows.{rowed-lawful, right-eight, cleared-row, cleared-length, cleared-span}
+>>>>>>> theirs
 use Rattle.shelf.proofs.Sound.{Sound, accepted-sound}
-use Rattle.shelf.proofs.Spans.{Lawful, society-length, own, other, cleared-length, cleared-span}
-use Rattle.claims.specs.Lists.{Table, tableFrom, removed, kept, fetched, forgotten, Lists, onList, fromList, nothing, keptLists, listsAfter, listsSay, listsRun}
+use Rattle.shelf.proofs.Spans.{Lawful, society-length, own as its-own, other}
+use Rattle.claims.specs.Lists.{Table, tableFrom, removed, kept, fetched, forgotten, Lists, onList, fromList, keptLists, listsAfter, listsSay, Kept, emptied, keptAfter, keptSay, listsRun}
+use Rattle.claims.specs.LastKept.{ClearedWith}
 use Rattle.claims.proofs.Tables.{all-kept, all-removed, few-kept, few-removed}
+use Rattle.claims.proofs.Steps.{laid-row}
 use Rattle.claims.proofs.Laid.{slot, laid, Fits, AllFit, removed-laid, forgotten-laid, fetched-laid, kept-laid}
 
 -- a span of c slots of w words is the list laid out
@@ -59,14 +85,11 @@ pub record Sim (l : Layout) (xs : List ℕ) (lists : Lists) : Type 0 where
 
 module _ (l : Layout) (ok : Lawful l) where
   -- the span of a society, as words of the layout
-  abbrev Own : ℕ → List Table → List ℕ → Type 0
-  Own s ts x = Held (l .words) (l .count s) ts x
-
-  pub sim-cleared : Sim l (cleared l) nothing
-  sim-cleared = record { long = cleared-length l ok; spans = λ s h. record { words = cleared-span l ok s h ∙ sym (laid-none (l .words) (l .count s)); few = zero-le; fit = tt } }
+  abbrev Its : ℕ → List Table → List ℕ → Type 0
+  Its s ts x = Held (l .words) (l .count s) ts x
 
   -- a step of one span and one list is a step of the shelf and the lists
-  module _ (s : ℕ) (f : List ℕ → List ℕ) (g : List Table → List Table) (step : s ≤ 7 → (ts : List Table) (x : List ℕ) → Own s ts x → Own s (g ts) (f x))
+  module _ (s : ℕ) (f : List ℕ → List ℕ) (g : List Table → List Table) (step : s ≤ 7 → (ts : List Table) (x : List ℕ) → Its s ts x → Its s (g ts) (f x))
       (xs : List ℕ) (lists : Lists) (sim : Sim l xs lists) where
     same : s ≤ 7 → length (f (spanOf l s xs)) ≡ sizeOf l s
     same h = let k = step h (lists s) (spanOf l s xs) (sim .spans s h) in ap length (k .words) ∙ laid-length (l .words) (l .count s) (g (lists s)) (ok .wide) (k .fit)
@@ -74,15 +97,15 @@ module _ (l : Layout) (ok : Lawful l) where
     sim-on : Sim l (onSociety l s f xs) (onList s g lists)
     sim-on = record { long = society-length l ok s f xs (sim .long) same; spans = λ t h. go t h (eqb t s) refl }
       where
-        go : (t : ℕ) → t ≤ 7 → (b : Bool) → eqb t s ≡ b → Own t (cond b (g (lists t)) (lists t)) (spanOf l t (onSociety l s f xs))
+        go : (t : ℕ) → t ≤ 7 → (b : Bool) → eqb t s ≡ b → Its t (cond b (g (lists t)) (lists t)) (spanOf l t (onSociety l s f xs))
         go t h true e =
             let q : s ≡ t = sym (eqb-true t s e) in
             let k : s ≤ 7 = omega arith in
-            subst (λ (r : ℕ). Own r (g (lists r)) (spanOf l r (onSociety l s f xs))) q
-            (subst (λ (x : List ℕ). Own s (g (lists s)) x) (sym (own l ok s f xs (sim .long) same k)) (step k (lists s) (spanOf l s xs) (sim .spans s k)))
-        go t h false e = subst (λ (x : List ℕ). Own t (lists t) x) (sym (other l ok s f xs (sim .long) same t h (eqb-false t s e))) (sim .spans t h)
+            subst (λ (r : ℕ). Its r (g (lists r)) (spanOf l r (onSociety l s f xs))) q
+            (subst (λ (x : List ℕ). Its s (g (lists s)) x) (sym (its-own l ok s f xs (sim .long) same k)) (step k (lists s) (spanOf l s xs) (sim .spans s k)))
+        go t h false e = subst (λ (x : List ℕ). Its t (lists t) x) (sym (other l ok s f xs (sim .long) same t h (eqb-false t s e))) (sim .spans t h)
 
-  sim-from : (s : ℕ) (f : List ℕ → Reply) (g : List Table → Reply) → ((ts : List Table) (x : List ℕ) → Own s ts x → f x ≡ g ts)
+  sim-from : (s : ℕ) (f : List ℕ → Reply) (g : List Table → Reply) → ((ts : List Table) (x : List ℕ) → Its s ts x → f x ≡ g ts)
       → (xs : List ℕ) (lists : Lists) → Sim l xs lists → fromSociety l s f xs ≡ fromList s g lists
   unfolding fromSociety
   sim-from s f g step xs lists sim = go (leb s 7) refl
@@ -92,8 +115,8 @@ module _ (l : Layout) (ok : Lawful l) where
       go false e = refl
 
   -- ---- each call
-  held-kept : (o : Checked) → Sound o → (ts : List Table) (x : List ℕ) → Own (o .society) ts x
-      → Own (o .society) (kept (l .count (o .society)) (tableFrom o) ts) (keptIn (l .words) (l .count (o .society)) (o .job) (slotFrom l o) x)
+  held-kept : (o : Checked) → Sound o → (ts : List Table) (x : List ℕ) → Its (o .society) ts x
+      → Its (o .society) (kept (l .count (o .society)) (tableFrom o) ts) (keptIn (l .words) (l .count (o .society)) (o .job) (slotFrom l o) x)
   held-kept o sound ts x k =
       let c = l .count (o .society) in
       let pos = ok .some (o .society) (sound .society) in
@@ -103,7 +126,7 @@ module _ (l : Layout) (ok : Lawful l) where
         fit = all-kept Fits (tableFrom o) ts c (sound .some, sound .few, sound .links) (k .fit);
       }
 
-  held-removed : (s j : ℕ) (ts : List Table) (x : List ℕ) → Own s ts x → Own s (removed j ts) (forgotIn (l .words) (l .count s) j x)
+  held-removed : (s j : ℕ) (ts : List Table) (x : List ℕ) → Its s ts x → Its s (removed j ts) (forgotIn (l .words) (l .count s) j x)
   held-removed s j ts x k =
       record {
         words = ap (forgotIn (l .words) (l .count s) j) (k .words) ∙ removed-laid (l .words) (ok .wide) j (l .count s) ts (k .few) (k .fit);
@@ -120,17 +143,16 @@ module _ (l : Layout) (ok : Lawful l) where
       go true e = sim-on (o .society) (keptIn (l .words) (l .count (o .society)) (o .job) (slotFrom l o)) (kept (l .count (o .society)) (tableFrom o)) (λ h. held-kept o (sound e)) xs lists sim
       go false e = sim
 
-  whole-after : (call : Call) (xs : List ℕ) (lists : Lists) → Sim l xs lists → Sim l (wholeAfter l xs call) (listsAfter (l .count) lists call)
+  pub laid-after : (call : Own) (xs : List ℕ) (lists : Lists) → Sim l xs lists → Sim l (laidAfter l xs call) (listsAfter (l .count) lists call)
   unfolding forgotShelf
-  whole-after (keep job proposal) xs lists sim = kept-sim (checkedOf job proposal) (accepted-sound job proposal) xs lists sim
-  whole-after (fetch job room) xs lists sim = sim
-  whole-after (forget society job) xs lists sim = sim-on society (forgotIn (l .words) (l .count society) job) (removed job) (λ h. held-removed society job) xs lists sim
-  whole-after clear xs lists sim = sim-cleared
+  laid-after (keep job proposal) xs lists sim = kept-sim (checkedOf job proposal) (accepted-sound job proposal) xs lists sim
+  laid-after (fetch job room) xs lists sim = sim
+  laid-after (forget society job) xs lists sim = sim-on society (forgotIn (l .words) (l .count society) job) (removed job) (λ h. held-removed society job) xs lists sim
 
-  whole-said : (call : Call) (xs : List ℕ) (lists : Lists) → Sim l xs lists → wholeSaid l xs call ≡ listsSay lists call
+  pub laid-said : (call : Own) (xs : List ℕ) (lists : Lists) → Sim l xs lists → laidSaid l xs call ≡ listsSay lists call
   unfolding fetchReply forgotReply
-  whole-said (keep job proposal) xs lists sim = refl
-  whole-said (fetch job room) xs lists sim = go (readJob job .outcome) refl
+  laid-said (keep job proposal) xs lists sim = refl
+  laid-said (fetch job room) xs lists sim = go (readJob job .outcome) refl
     where
       go : (o : Outcome) → readJob job .outcome ≡ o
           → onJob o (fetchFrom l (jobOf (readJob job .words)) room xs) ≡ onJob o (fetched (jobOf (readJob job .words)) room (lists (jobOf (readJob job .words) .society)))
@@ -140,25 +162,77 @@ module _ (l : Layout) (ok : Lawful l) where
           let held = sim .spans (j .society) (read-jobs-allowed job k e .society) in
           ap {B = Reply} (fetchIn (l .words) c j room) (held .words) ∙ fetched-laid (l .words) (ok .wide) j room c (lists (j .society)) (held .few) (held .fit)
       go (Refuses number place) e = refl
-  whole-said (forget society job) xs lists sim =
+  laid-said (forget society job) xs lists sim =
       let c = l .count society in
       sim-from society (forgetReply (l .words) c job) (forgotten job) (λ ts x k. ap {B = Reply} (forgetReply (l .words) c job) (k .words) ∙ forgotten-laid (l .words) (ok .wide) job c ts (k .few) (k .fit)) xs lists sim
-  whole-said clear xs lists sim = refl
 
-  -- a shelf that stands for eight lists has all its words
-  pub sim-after : (call : Call) (xs : List ℕ) (lists : Lists) → Sim l xs lists → Sim l (after l xs call) (listsAfter (l .count) lists call)
-  sim-after call xs lists sim =
-      subst (λ (ys : List ℕ). Sim l ys (listsAfter (l .count) lists call)) (on-whole l xs (sim .long) (λ s. wholeAfter l s call)) (whole-after call xs lists sim)
+-- ---- a shelf with its row, and eight lists with theirs
+pub record Stands (xs : List ℕ) (k : Kept) : Type 0 where
+  pub row : rowIn xs ≡ k .row
+  pub right : testRow (k .row) ≡ Right
+  pub sim : Sim (rowed (k .row)) xs (k .lists)
 
-  pub sim-said : (call : Call) (xs : List ℕ) (lists : Lists) → Sim l xs lists → said l xs call ≡ listsSay lists call
-  sim-said call xs lists sim = sym (from-whole l xs (sim .long) (λ s. wholeSaid l s call)) ∙ whole-said call xs lists sim
+-- a cleared shelf stands for empty lists
+pub cleared-stands : (counts xs : List ℕ) → testRow (rowIn counts) ≡ Right → length xs ≡ shelfWords → Stands (cleared (rowIn counts) xs) (emptied counts)
+cleared-stands counts xs e len =
+    let row = rowIn counts in
+    let eight = right-eight counts e in
+    record {
+      row = cleared-row row eight e xs len;
+      right = e;
+      sim = record {
+        long = cleared-length row eight e xs len;
+        spans = λ s h. record { words = cleared-span row eight e xs len s h ∙ sym (laid-none slotWords (countIn row s)); few = zero-le; fit = tt };
+      };
+    }
 
-  sim-run : (calls : List Call) (xs : List ℕ) (lists : Lists) → Sim l xs lists → shelfRun l xs calls ≡ listsRun (l .count) lists calls
-  sim-run [] xs lists sim = refl
-  sim-run (call ∷ calls) xs lists sim =
-      ap (λ (r : Reply). r ∷ shelfRun l (after l xs call) calls) (sim-said call xs lists sim)
-      ∙ ap (λ (rs : List Reply). listsSay lists call ∷ rs) (sim-run calls (after l xs call) (listsAfter (l .count) lists call) (sim-after call xs lists sim))
+module _ (xs : List ℕ) (k : Kept) (st : Stands xs k) where
+  len : length xs ≡ shelfWords
+  len = st .sim .long
 
-  -- for any lawful layout
-  pub lists-of : (calls : List Call) → shelfRun l (cleared l) calls ≡ listsRun (l .count) nothing calls
-  lists-of calls = sim-run calls (cleared l) nothing sim-cleared
+  own-right : testRow (rowIn xs) ≡ Right
+  own-right = ap {B = Row} testRow (st .row) ∙ st .right
+
+  lawful : Lawful (rowed (k .row))
+  lawful = rowed-lawful (k .row) (st .right)
+
+  own-after : (call : Own) → laidAfter (rowed (k .row)) xs call ≡ after xs (own call)
+  own-after call = ap (λ (r : List ℕ). laidAfter (rowed r) xs call) (sym (st .row)) ∙ after-right xs len own-right call
+
+  pub stands-after : (call : Call) → Stands (after xs call) (keptAfter k call)
+  stands-after (own call) =
+      subst (λ (ys : List ℕ). Stands ys (keptAfter k (own call))) (own-after call) (record {
+        row = laid-row (k .row) (st .right) call xs len ∙ st .row;
+        right = st .right;
+        sim = laid-after (rowed (k .row)) lawful call xs (k .lists) (st .sim);
+      })
+  stands-after (clear counts) = go (testRow (rowIn counts)) refl
+    where
+      go : (o : Row) → testRow (rowIn counts) ≡ o → Stands (after xs (clear counts)) (onRow o (emptied counts) (λ place. k))
+      go Right e = subst (λ (ys : List ℕ). Stands ys (emptied counts)) (clear-right xs len counts e .1) (cleared-stands counts xs e len)
+      go (Wrong place) e = subst (λ (ys : List ℕ). Stands ys k) (clear-wrong xs len counts place e .1) st
+
+  pub stands-said : (call : Call) → said xs call ≡ keptSay k call
+  stands-said (own call) =
+      sym (said-right xs len own-right call) ∙ ap {B = Reply} (λ (r : List ℕ). laidSaid (rowed r) xs call) (st .row) ∙ laid-said (rowed (k .row)) lawful call xs (k .lists) (st .sim)
+  stands-said (clear counts) = go (testRow (rowIn counts)) refl
+    where
+      go : (o : Row) → testRow (rowIn counts) ≡ o → said xs (clear counts) ≡ onRow o done (λ place. refusal 22 place)
+      go Right e = sym (clear-right xs len counts e .0)
+      go (Wrong place) e = sym (clear-wrong xs len counts place e .0)
+
+stands-run : (calls : List Call) (xs : List ℕ) (k : Kept) → Stands xs k → shelfRun xs calls ≡ listsRun k calls
+stands-run [] xs k st = refl
+stands-run (call ∷ calls) xs k st =
+    ap (λ (r : Reply). r ∷ shelfRun (after xs call) calls) (stands-said xs k st call)
+    ∙ ap (λ (rs : List Reply). keptSay k call ∷ rs) (stands-run calls (after xs call) (keptAfter k call) (stands-after xs k st call))
+
+-- ---- from a clearing on
+module _ (counts shelf : List ℕ) (from : ClearedWith counts shelf) where
+  pub from-cleared : Stands shelf (emptied counts)
+  from-cleared =
+      subst (λ (ys : List ℕ). Stands ys (emptied counts)) (clear-right (from .before) (from .long) counts (from .allowed) .1 ∙ sym (from .is))
+      (cleared-stands counts (from .before) (from .allowed) (from .long))
+
+  pub lists-of : (calls : List Call) → shelfRun shelf calls ≡ listsRun (emptied counts) calls
+  lists-of calls = stands-run calls shelf (emptied counts) from-cleared

@@ -21,29 +21,38 @@ use Rattle.measure.specs.Check.{onRead, proposalVerdict, checkOf}
 use Rattle.checked.specs.Answers.{Reply, accepted}
 use Rattle.checked.specs.Checked.{Checked, checkedOf, valuesOf}
 use Rattle.shelf.specs.Fetched.{handed, sameCounts, onJob}
-use Rattle.shelf.specs.Shelf.{Layout, cleared}
-use Rattle.shelf.specs.Calls.{Call, keep, fetch, forget, clear, said}
+use Rattle.shelf.specs.declared.Row.{Row}
+use Rattle.shelf.specs.declared.Row.the-variants.{Right, Wrong}
+use Rattle.shelf.specs.Counts.{countIn, testRow, onRow}
+use Rattle.shelf.specs.Shelf.{rowIn}
+use Rattle.shelf.specs.Calls.{Own, Call, keep, fetch, forget, own, clear, said}
 use Rattle.shelf.proofs.Picked.{and-left, and-right}
+<<<<<<< ours
 use Rattle.shelf.proofs.Spans.{Lawful}
 use Rattle.checked.proofs.Sound.{accepted-read, values-count, multipliers-count}
+||||||| base
+use Rattle.shelf.proofs.Spans.{Lawful}
+use Rattle.shelf.proofs.Sound.{accepted-read, values-count, multipliers-count}
+=======
+use Rattle.shelf.proofs.Sound.{accepted-read, values-count, multipliers-count}
+>>>>>>> theirs
 use Rattle.claims.specs.Read.{jobIn, Reads}
-use Rattle.claims.specs.Lists.{Table, tableFrom, tableFor, isOf, fetched, kept, removed, Lists, onList, nothing, keptLists, listsAfter}
-use Rattle.claims.specs.LastKept.{shelfAfter, listsAfterAll, held}
+use Rattle.claims.specs.Lists.{Table, tableFrom, tableFor, isOf, fetched, kept, removed, Lists, onList, keptLists, listsAfter, Kept, emptied, keptAfter}
+use Rattle.claims.specs.LastKept.{ClearedWith, shelfAfter, allAfter, held}
 use Rattle.claims.specs.Fetched.{Sent, IsAccepted}
 use Rattle.claims.proofs.Accepted.{no-other-refusal}
 use Rattle.claims.proofs.Told.{handed-told}
 use Rattle.claims.proofs.Tables.{All, all-kept, all-removed}
-use Rattle.claims.proofs.EightLists.{sim-said, sim-cleared}
 use Rattle.claims.proofs.AsChecked.{value-kept, same-proposal, fetched-checked, counts-refused}
-use Rattle.claims.proofs.LastKept.{sim-all}
+use Rattle.claims.proofs.LastKept.{fetch-said}
 
 -- ---- what holds of every kept table holds of every table of the lists
-module _ (P : (society : ℕ) → Table → Type 0) (count : ℕ → ℕ) where
+module _ (P : (society : ℕ) → Table → Type 0) where
   abbrev Each : Lists → Type 0
   Each lists = (s : ℕ) → All (P s) (lists s)
 
-  each-kept : (o : Checked) → (accepted (o .verdict) ≡ true → P (o .society) (tableFrom o)) → (lists : Lists) → Each lists → Each (keptLists count o lists)
-  each-kept o new lists a s = go (accepted (o .verdict)) refl
+  each-kept : (count : ℕ → ℕ) (o : Checked) → (accepted (o .verdict) ≡ true → P (o .society) (tableFrom o)) → (lists : Lists) → Each lists → Each (keptLists count o lists)
+  each-kept count o new lists a s = go (accepted (o .verdict)) refl
     where
       mine : P (o .society) (tableFrom o) → (d : Bool) → eqb s (o .society) ≡ d → All (P s) (cond d (kept (count (o .society)) (tableFrom o) (lists s)) (lists s))
       mine p true e = all-kept (P s) (tableFrom o) (lists s) (count (o .society)) (subst (λ (r : ℕ). P r (tableFrom o)) (sym (eqb-true s (o .society) e)) p) (a s)
@@ -61,19 +70,27 @@ module _ (P : (society : ℕ) → Table → Type 0) (count : ℕ → ℕ) where
       go false = a s
 
   abbrev New : List Call → Type 0
-  New calls = (job proposal : List ℕ) → Sent (keep job proposal) calls → accepted (checkedOf job proposal .verdict) ≡ true → P (checkedOf job proposal .society) (tableFrom (checkedOf job proposal))
+  New calls = (job proposal : List ℕ) → Sent (own (keep job proposal)) calls → accepted (checkedOf job proposal .verdict) ≡ true → P (checkedOf job proposal .society) (tableFrom (checkedOf job proposal))
 
-  each-after : (call : Call) (calls : List Call) → New (call ∷ calls) → (lists : Lists) → Each lists → Each (listsAfter count lists call)
-  each-after (keep job proposal) calls new lists a = each-kept (checkedOf job proposal) (new job proposal (inl refl)) lists a
-  each-after (fetch job room) calls new lists a = a
-  each-after (forget s job) calls new lists a = each-removed s job lists a
-  each-after clear calls new lists a = λ s. tt
+  each-own : (count : ℕ → ℕ) (call : Own) (calls : List Call) → New (own call ∷ calls) → (lists : Lists) → Each lists → Each (listsAfter count lists call)
+  each-own count (keep job proposal) calls new lists a = each-kept count (checkedOf job proposal) (new job proposal (inl refl)) lists a
+  each-own count (fetch job room) calls new lists a = a
+  each-own count (forget s job) calls new lists a = each-removed s job lists a
 
-  each-all : (calls : List Call) → New calls → (lists : Lists) → Each lists → Each (listsAfterAll count lists calls)
-  each-all [] new lists a = a
-  each-all (call ∷ calls) new lists a = each-all calls (λ job proposal sent e. new job proposal (inr sent) e) (listsAfter count lists call) (each-after call calls new lists a)
+  each-after : (call : Call) (calls : List Call) → New (call ∷ calls) → (k : Kept) → Each (k .lists) → Each (keptAfter k call .lists)
+  each-after (own call) calls new k a = each-own (countIn (k .row)) call calls new (k .lists) a
+  each-after (clear counts) calls new k a = go (testRow (rowIn counts))
+    where
+      go : (o : Row) → Each (onRow o (emptied counts) (λ place. k) .lists)
+      go Right = λ s. tt
+      go (Wrong place) = a
+
+  each-all : (calls : List Call) → New calls → (k : Kept) → Each (k .lists) → Each (allAfter k calls .lists)
+  each-all [] new k a = a
+  each-all (call ∷ calls) new k a = each-all calls (λ job proposal sent e. new job proposal (inr sent) e) (keptAfter k call) (each-after call calls new k a)
 
 -- ---- where a table came from
+<<<<<<< ours
 pub record Came (calls : List Call) (society : ℕ) (t : Table) : Type 0 where
   pub job : List ℕ
   pub proposal : List ℕ
@@ -85,6 +102,31 @@ pub record Came (calls : List Call) (society : ℕ) (t : Table) : Type 0 where
 pub came : (count : ℕ → ℕ) (calls : List Call) (society : ℕ) → All (Came calls society) (held count calls society)
 came count calls society =
     each-all (Came calls) count calls (λ job proposal sent e. record { job = job; proposal = proposal; sent = sent; yes = e; its-society = refl; is = refl }) nothing (λ s. tt) society
+||||||| base
+record Came (calls : List Call) (society : ℕ) (t : Table) : Type 0 where
+  job : List ℕ
+  proposal : List ℕ
+  sent : Sent (keep job proposal) calls
+  yes : accepted (checkedOf job proposal .verdict) ≡ true
+  its-society : checkedOf job proposal .society ≡ society
+  is : t ≡ tableFrom (checkedOf job proposal)
+
+came : (count : ℕ → ℕ) (calls : List Call) (society : ℕ) → All (Came calls society) (held count calls society)
+came count calls society =
+    each-all (Came calls) count calls (λ job proposal sent e. record { job = job; proposal = proposal; sent = sent; yes = e; its-society = refl; is = refl }) nothing (λ s. tt) society
+=======
+record Came (calls : List Call) (society : ℕ) (t : Table) : Type 0 where
+  job : List ℕ
+  proposal : List ℕ
+  sent : Sent (own (keep job proposal)) calls
+  yes : accepted (checkedOf job proposal .verdict) ≡ true
+  its-society : checkedOf job proposal .society ≡ society
+  is : t ≡ tableFrom (checkedOf job proposal)
+
+came : (counts : List ℕ) (calls : List Call) (society : ℕ) → All (Came calls society) (held counts calls society)
+came counts calls society =
+    each-all (Came calls) calls (λ job proposal sent e. record { job = job; proposal = proposal; sent = sent; yes = e; its-society = refl; is = refl }) (emptied counts) (λ s. tt) society
+>>>>>>> theirs
 
 -- a fetch that does not miss gives one of them
 pub record Gives (P : Table → Type 0) (j : Job) (room : ℕ) (r : Reply) : Type 0 where
@@ -116,7 +158,7 @@ counts-same j room t n = go (sameCounts j (length (t .values)) (length (t .multi
 
 -- what the check's verdict on the kept proposal and the job presented hands out
 module _ (calls : List Call) (job : List ℕ) (room : ℕ) (reads : Reads (readJob job .outcome)) (old proposal : List ℕ) (yes : accepted (checkOf old proposal) ≡ true)
-    (sent : Sent (keep old proposal) calls) (es : jobIn old .society ≡ jobIn job .society) (en : jobIn old .number ≡ jobIn job .number)
+    (sent : Sent (own (keep old proposal)) calls) (es : jobIn old .society ≡ jobIn job .society) (en : jobIn old .number ≡ jobIn job .number)
     (ec : jobIn job .cells ≡ jobIn old .cells) (el : jobIn job .links ≡ jobIn old .links) where
   abbrev vs : List ℕ
   vs = valuesOf (jobIn old) proposal
@@ -154,6 +196,7 @@ behind calls job room reads t k e n =
     subst (λ (x : Reply). IsAccepted calls job x) (sym r)
     (by-verdict calls job room reads old proposal (k .yes) (k .sent) (k .its-society) en ec el (checkOf job proposal) refl (sym (ap (λ (x : Reply). x .answer .number) r) ∙ n))
 
+<<<<<<< ours
 module _ (l : Layout) (ok : Lawful l) where
   -- for any lawful layout
   pub fetched-of : (calls : List Call) (job : List ℕ) (room : ℕ) → said l (shelfAfter l (cleared l) calls) (fetch job room) .answer .number ≡ 0
@@ -169,3 +212,35 @@ module _ (l : Layout) (ok : Lawful l) where
           let g = fetched-gives (Came calls (j .society)) j room ts (came (l .count) calls (j .society)) (λ z. omega (arith, m, z)) in
           subst (λ (x : Reply). IsAccepted calls job x) (sym (g .is)) (behind calls job room (k, e) (g .table) (g .holds) (g .its-job) (sym (ap (λ (x : Reply). x .answer .number) (g .is)) ∙ m))
       go (Refuses number place) e m = absurd (omega (arith, m, no-other-refusal job [] number place (ap (λ (o : Outcome). onRead o (proposalVerdict (jobIn job) [])) e) .0))
+||||||| base
+module _ (l : Layout) (ok : Lawful l) where
+  -- for any lawful layout
+  pub fetched-of : (calls : List Call) (job : List ℕ) (room : ℕ) → said l (shelfAfter l (cleared l) calls) (fetch job room) .answer .number ≡ 0
+      → IsAccepted calls job (said l (shelfAfter l (cleared l) calls) (fetch job room))
+  fetched-of calls job room n =
+      let r = sim-said l ok (fetch job room) (shelfAfter l (cleared l) calls) (listsAfterAll (l .count) nothing calls) (sim-all l ok calls (cleared l) nothing (sim-cleared l ok)) in
+      subst (λ (x : Reply). IsAccepted calls job x) (sym r) (go (readJob job .outcome) refl (sym (ap (λ (x : Reply). x .answer .number) r) ∙ n))
+    where
+      go : (o : Outcome) → readJob job .outcome ≡ o → onJob o (fetched (jobIn job) room (held (l .count) calls (jobIn job .society))) .answer .number ≡ 0 → IsAccepted calls job (onJob o (fetched (jobIn job) room (held (l .count) calls (jobIn job .society))))
+      go (Done k) e m =
+          let j = jobIn job in
+          let ts = held (l .count) calls (j .society) in
+          let g = fetched-gives (Came calls (j .society)) j room ts (came (l .count) calls (j .society)) m in
+          subst (λ (x : Reply). IsAccepted calls job x) (sym (g .is)) (behind calls job room (k, e) (g .table) (g .holds) (g .its-job) (sym (ap (λ (x : Reply). x .answer .number) (g .is)) ∙ m))
+      go (Refuses number place) e m = absurd (omega (arith, m, no-other-refusal job [] number place (ap (λ (o : Outcome). onRead o (proposalVerdict (jobIn job) [])) e) .0))
+=======
+pub fetched-of : (counts shelf : List ℕ) → ClearedWith counts shelf → (calls : List Call) (job : List ℕ) (room : ℕ) → said (shelfAfter shelf calls) (own (fetch job room)) .answer .number ≡ 0
+    → IsAccepted calls job (said (shelfAfter shelf calls) (own (fetch job room)))
+fetched-of counts shelf from calls job room n =
+    let r = fetch-said counts shelf from calls job room in
+    subst (λ (x : Reply). IsAccepted calls job x) (sym r) (go (readJob job .outcome) refl (sym (ap (λ (x : Reply). x .answer .number) r) ∙ n))
+  where
+    go : (o : Outcome) → readJob job .outcome ≡ o → onJob o (fetched (jobIn job) room (held counts calls (jobIn job .society))) .answer .number ≡ 0
+        → IsAccepted calls job (onJob o (fetched (jobIn job) room (held counts calls (jobIn job .society))))
+    go (Done k) e m =
+        let j = jobIn job in
+        let ts = held counts calls (j .society) in
+        let g = fetched-gives (Came calls (j .society)) j room ts (came counts calls (j .society)) m in
+        subst (λ (x : Reply). IsAccepted calls job x) (sym (g .is)) (behind calls job room (k, e) (g .table) (g .holds) (g .its-job) (sym (ap (λ (x : Reply). x .answer .number) (g .is)) ∙ m))
+    go (Refuses number place) e m = absurd (omega (arith, m, no-other-refusal job [] number place (ap (λ (o : Outcome). onRead o (proposalVerdict (jobIn job) [])) e) .0))
+>>>>>>> theirs

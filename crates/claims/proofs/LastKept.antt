@@ -19,14 +19,26 @@ use Rattle.measure.specs.Check.{checkOf}
 use Rattle.checked.specs.Answers.{Reply, refusal, accepted, answerOf}
 use Rattle.checked.specs.Checked.{Checked, checkedOf, valuesOf, multipliersOf}
 use Rattle.shelf.specs.Fetched.{handed, onJob}
-use Rattle.shelf.specs.Shelf.{Layout, cleared}
-use Rattle.shelf.specs.Calls.{Call, keep, fetch, forget, clear, after, said}
-use Rattle.claims.specs.Lists.{Table, tableFrom, isOf, holds, replaced, removed, youngest, kept, tableFor, fetched, Lists, onList, nothing, keptLists, listsAfter}
-use Rattle.claims.specs.LastKept.{isFor, lastAfter, lastFrom, lastKept, shelfAfter, listsAfterAll, held, given}
+use Rattle.shelf.specs.declared.Row.{Row}
+use Rattle.shelf.specs.declared.Row.the-variants.{Right, Wrong}
+use Rattle.shelf.specs.Counts.{countIn, testRow, onRow}
+use Rattle.shelf.specs.Shelf.{rowIn}
+use Rattle.shelf.specs.Calls.{Own, Call, keep, fetch, forget, own, clear, after, said}
+use Rattle.claims.specs.Lists.{Table, tableFrom, isOf, holds, replaced, removed, youngest, kept, tableFor, fetched, Lists, onList, keptLists, listsAfter, Kept, emptied, keptAfter}
+use Rattle.claims.specs.LastKept.{ClearedWith, isFor, lastBy, lastAfter, lastFrom, lastKept, shelfAfter, allAfter, held, given}
 use Rattle.claims.specs.Read.{jobIn, Reads}
+<<<<<<< ours
 use Rattle.checked.proofs.Sound.{accepted-read, values-count}
 use Rattle.shelf.proofs.Spans.{Lawful}
 use Rattle.claims.proofs.EightLists.{Sim, sim-after, sim-said, sim-cleared}
+||||||| base
+use Rattle.shelf.proofs.Sound.{accepted-read, values-count}
+use Rattle.shelf.proofs.Spans.{Lawful}
+use Rattle.claims.proofs.EightLists.{Sim, sim-after, sim-said, sim-cleared}
+=======
+use Rattle.shelf.proofs.Sound.{accepted-read, values-count}
+use Rattle.claims.proofs.EightLists.{Stands, stands-after, stands-said, from-cleared}
+>>>>>>> theirs
 use Rattle.claims.proofs.AsChecked.{fetched-checked}
 
 clash : {A : Type 0} → false ≡ true → A
@@ -254,7 +266,7 @@ module _ (count : ℕ → ℕ) (s j : ℕ) where
       go true = mine (eqb s (o .society)) refl
       go false = k
 
-  last-after : (call : Call) (lists : Lists) (last : Option Table) → Last j (lists s) last → Last j (listsAfter count lists call s) (lastAfter s j last call)
+  last-after : (call : Own) (lists : Lists) (last : Option Table) → Last j (lists s) last → Last j (listsAfter count lists call s) (lastBy s j last call)
   last-after (keep job proposal) lists last k = kept-after (checkedOf job proposal) lists last k
   last-after (fetch i room) lists last k = k
   last-after (forget t i) lists last k = go (eqb s t)
@@ -262,11 +274,19 @@ module _ (count : ℕ → ℕ) (s j : ℕ) where
       go : (d : Bool) → Last j (cond d (removed i (lists s)) (lists s)) last
       go true = last-removed i j (lists s) last k
       go false = k
-  last-after clear lists last k = record { distinct = tt; is = λ t f. none-some t f }
 
-  last-all : (calls : List Call) (lists : Lists) (last : Option Table) → Last j (lists s) last → Last j (listsAfterAll count lists calls s) (lastFrom s j last calls)
-  last-all [] lists last k = k
-  last-all (call ∷ calls) lists last k = last-all calls (listsAfter count lists call) (lastAfter s j last call) (last-after call lists last k)
+module _ (s j : ℕ) where
+  last-step : (call : Call) (k : Kept) (last : Option Table) → Last j (k .lists s) last → Last j (keptAfter k call .lists s) (lastAfter s j last call)
+  last-step (own call) k last h = last-after (countIn (k .row)) s j call (k .lists) last h
+  last-step (clear counts) k last h = go (testRow (rowIn counts))
+    where
+      go : (o : Row) → Last j (onRow o (emptied counts) (λ place. k) .lists s) last
+      go Right = record { distinct = tt; is = λ t f. none-some t f }
+      go (Wrong place) = h
+
+  last-all : (calls : List Call) (k : Kept) (last : Option Table) → Last j (k .lists s) last → Last j (allAfter k calls .lists s) (lastFrom s j last calls)
+  last-all [] k last h = h
+  last-all (call ∷ calls) k last h = last-all calls (keptAfter k call) (lastAfter s j last call) (last-step call k last h)
 
 -- ---- a fetch hands out what is found
 fetched-found : (j : Job) (room : ℕ) (ts : List Table) (t : Table) → found (j .number) ts ≡ some t → fetched j room ts ≡ tableFor j room t
@@ -286,23 +306,28 @@ holds-found j (x ∷ ts) h = go (isOf j x) refl h (λ k. holds-found j ts k)
     go true e f k = (x, refl)
     go false e f k = k f
 
-module _ (l : Layout) (ok : Lawful l) where
-  pub sim-all : (calls : List Call) (xs : List ℕ) (lists : Lists) → Sim l xs lists → Sim l (shelfAfter l xs calls) (listsAfterAll (l .count) lists calls)
-  sim-all [] xs lists sim = sim
-  sim-all (call ∷ calls) xs lists sim = sim-all calls (after l xs call) (listsAfter (l .count) lists call) (sim-after l ok call xs lists sim)
+pub stands-all : (calls : List Call) (xs : List ℕ) (k : Kept) → Stands xs k → Stands (shelfAfter xs calls) (allAfter k calls)
+stands-all [] xs k st = st
+stands-all (call ∷ calls) xs k st = stands-all calls (after xs call) (keptAfter k call) (stands-after xs k st call)
 
-  -- for any lawful layout
+module _ (counts shelf : List ℕ) (from : ClearedWith counts shelf) where
+  pub all-stands : (calls : List Call) → Stands (shelfAfter shelf calls) (allAfter (emptied counts) calls)
+  all-stands calls = stands-all calls shelf (emptied counts) (from-cleared counts shelf from)
+
+  pub fetch-said : (calls : List Call) (job : List ℕ) (room : ℕ)
+      → said (shelfAfter shelf calls) (own (fetch job room)) ≡ onJob (readJob job .outcome) (fetched (jobIn job) room (held counts calls (jobIn job .society)))
+  fetch-said calls job room = stands-said (shelfAfter shelf calls) (allAfter (emptied counts) calls) (all-stands calls) (own (fetch job room))
+
   pub last-of : (calls : List Call) (job : List ℕ) (room : ℕ) → Reads (readJob job .outcome) → (t : Table)
-      → lastKept (jobIn job .society) (jobIn job .number) calls ≡ some t → holds (jobIn job .number) (held (l .count) calls (jobIn job .society)) ≡ true
-      → said l (shelfAfter l (cleared l) calls) (fetch job room) ≡ tableFor (jobIn job) room t
+      → lastKept (jobIn job .society) (jobIn job .number) calls ≡ some t → holds (jobIn job .number) (held counts calls (jobIn job .society)) ≡ true
+      → said (shelfAfter shelf calls) (own (fetch job room)) ≡ tableFor (jobIn job) room t
   last-of calls job room reads t e p =
       let j = jobIn job in
-      let ts = held (l .count) calls (j .society) in
+      let ts = held counts calls (j .society) in
       let f = holds-found (j .number) ts p in
-      let k = last-all (l .count) (j .society) (j .number) calls nothing none (record { distinct = tt; is = λ x g. none-some x g }) in
+      let k = last-all (j .society) (j .number) calls (emptied counts) none (record { distinct = tt; is = λ x g. none-some x g }) in
       let q : f .0 ≡ t = cc (k .is (f .0) (f .1)) in
-      sim-said l ok (fetch job room) (shelfAfter l (cleared l) calls) (listsAfterAll (l .count) nothing calls) (sim-all calls (cleared l) nothing (sim-cleared l ok))
-      ∙ ap {B = Reply} (λ (o : Outcome). onJob o (fetched j room ts)) (reads .1)
+      fetch-said calls job room ∙ ap {B = Reply} (λ (o : Outcome). onJob o (fetched j room ts)) (reads .1)
       ∙ fetched-found j room ts (f .0) (f .1) ∙ ap {B = Reply} (tableFor j room) q
 
 -- ---- with the job pack under which it was kept
@@ -312,6 +337,7 @@ accepted-given room job vs ms (Accepted F G) y h =
     ap {B = Reply} (λ (b : Bool). cond b (record { answer = record { number = 0; place = length vs; loss = natAbs F; gap = natAbs G }; values = vs }) (refusal 13 (length vs))) (le-leb (length vs) room h)
 accepted-given room job vs ms (Refused number place) y h = clash y
 
+<<<<<<< ours
 pub same-given : (job proposal : List ℕ) → accepted (checkOf job proposal) ≡ true → (room : ℕ) → jobIn job .cells ≤ room
     → tableFor (jobIn job) room (tableFrom (checkedOf job proposal)) ≡ given (tableFrom (checkedOf job proposal))
 unfolding checkedOf
@@ -319,6 +345,30 @@ same-given job proposal y room r =
     let packed = accepted-read job proposal y in
     fetched-checked job proposal y job (packed .job-done) refl refl room
     ∙ accepted-given room (jobIn job .number) (valuesOf (jobIn job) proposal) (multipliersOf (jobIn job) proposal) (checkOf job proposal) y (omega (arith, values-count job proposal packed))
+||||||| base
+module _ (l : Layout) (ok : Lawful l) where
+  pub same-of : (calls : List Call) (job proposal : List ℕ) (room : ℕ) → accepted (checkOf job proposal) ≡ true
+      → lastKept (jobIn job .society) (jobIn job .number) calls ≡ some (tableFrom (checkedOf job proposal))
+      → holds (jobIn job .number) (held (l .count) calls (jobIn job .society)) ≡ true → jobIn job .cells ≤ room
+      → said l (shelfAfter l (cleared l) calls) (fetch job room) ≡ given (tableFrom (checkedOf job proposal))
+  unfolding checkedOf
+  same-of calls job proposal room y e p r =
+      let packed = accepted-read job proposal y in
+      last-of l ok calls job room (packed .job-done) (tableFrom (checkedOf job proposal)) e p
+      ∙ fetched-checked job proposal y job (packed .job-done) refl refl room
+      ∙ accepted-given room (jobIn job .number) (valuesOf (jobIn job) proposal) (multipliersOf (jobIn job) proposal) (checkOf job proposal) y (omega (arith, values-count job proposal packed))
+=======
+pub same-of : (counts shelf : List ℕ) → ClearedWith counts shelf → (calls : List Call) (job proposal : List ℕ) (room : ℕ) → accepted (checkOf job proposal) ≡ true
+    → lastKept (jobIn job .society) (jobIn job .number) calls ≡ some (tableFrom (checkedOf job proposal))
+    → holds (jobIn job .number) (held counts calls (jobIn job .society)) ≡ true → jobIn job .cells ≤ room
+    → said (shelfAfter shelf calls) (own (fetch job room)) ≡ given (tableFrom (checkedOf job proposal))
+unfolding checkedOf
+same-of counts shelf from calls job proposal room y e p r =
+    let packed = accepted-read job proposal y in
+    last-of counts shelf from calls job room (packed .job-done) (tableFrom (checkedOf job proposal)) e p
+    ∙ fetched-checked job proposal y job (packed .job-done) refl refl room
+    ∙ accepted-given room (jobIn job .number) (valuesOf (jobIn job) proposal) (multipliersOf (jobIn job) proposal) (checkOf job proposal) y (omega (arith, values-count job proposal packed))
+>>>>>>> theirs
 
 -- ---- and no more than that is held
 fetched-lacks : (j : Job) (room : ℕ) (ts : List Table) → holds (j .number) ts ≡ false → fetched j room ts ≡ refusal 12 0
@@ -329,16 +379,17 @@ fetched-lacks j room (t ∷ ts) h = go (isOf (j .number) t) h (λ k. fetched-lac
     go true f k = clash (sym f)
     go false f k = k f
 
-module _ (l : Layout) (ok : Lawful l) where
+module _ (counts shelf : List ℕ) (from : ClearedWith counts shelf) where
   -- what the rule holds no more is not found
-  pub lost-of : (calls : List Call) (job : List ℕ) (room : ℕ) → Reads (readJob job .outcome) → holds (jobIn job .number) (held (l .count) calls (jobIn job .society)) ≡ false
-      → said l (shelfAfter l (cleared l) calls) (fetch job room) ≡ refusal 12 0
+  pub lost-of : (calls : List Call) (job : List ℕ) (room : ℕ) → Reads (readJob job .outcome) → holds (jobIn job .number) (held counts calls (jobIn job .society)) ≡ false
+      → said (shelfAfter shelf calls) (own (fetch job room)) ≡ refusal 12 0
   lost-of calls job room reads p =
       let j = jobIn job in
-      sim-said l ok (fetch job room) (shelfAfter l (cleared l) calls) (listsAfterAll (l .count) nothing calls) (sim-all l ok calls (cleared l) nothing (sim-cleared l ok))
-      ∙ ap {B = Reply} (λ (o : Outcome). onJob o (fetched j room (held (l .count) calls (j .society)))) (reads .1)
-      ∙ fetched-lacks j room (held (l .count) calls (j .society)) p
+      fetch-said counts shelf from calls job room ∙ ap {B = Reply} (λ (o : Outcome). onJob o (fetched j room (held counts calls (j .society)))) (reads .1)
+      ∙ fetched-lacks j room (held counts calls (j .society)) p
 
   -- the rule holds at most the society's count
-  pub few-held : (calls : List Call) → (society : ℕ) → society ≤ 7 → length (held (l .count) calls society) ≤ l .count society
-  few-held calls s h = sim-all l ok calls (cleared l) nothing (sim-cleared l ok) .spans s h .few
+  pub few-of : (calls : List Call) (society : ℕ) → society ≤ 7 → length (held counts calls society) ≤ countIn (rowIn (shelfAfter shelf calls)) society
+  few-of calls s h =
+      let st = all-stands counts shelf from calls in
+      subst (λ (row : List ℕ). length (held counts calls s) ≤ countIn row s) (sym (st .row)) (st .sim .spans s h .few)

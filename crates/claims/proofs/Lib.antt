@@ -12,14 +12,21 @@ pub mod Worked
 pub mod Promises
 pub mod Tables
 pub mod Laid
+pub mod Steps
 pub mod EightLists
 pub mod AsChecked
 pub mod LastKept
 pub mod NoNeighbour
+pub mod Rests
 pub mod Refusals
 pub mod Fetched
+<<<<<<< ours
 pub mod NeverSix
 pub mod Layouts
+||||||| base
+pub mod Layouts
+=======
+>>>>>>> theirs
 pub mod ShelfPromises
 pub mod Along
 pub mod HousePromises

@@ -1,35 +1,61 @@
--- No neighbour (document 01, "The shelf": "Every call reads and writes only its own society's … words"): what is done to one span is a function of
--- that span and leaves every other, so what other societies send changes no answer to this one.
-use mathlib.Core.Path.{_≡_, refl, sym, ap, _∙_, subst}
+-- No neighbour (document 01, "The shelf": "Every call reads and writes only its own society's … words", and W-209: "every call also reads the leading
+-- row"): what is done to one span is a function of that span and its count, and leaves the row and every other span, so what other societies send
+-- changes no answer to this one.
+use mathlib.Core.Path.{_≡_, refl, sym, ap, ap₂, _∙_, subst}
 use mathlib.Core.Bool.{Bool, true, false, cond, not, true≢false}
 use mathlib.Core.Option.{Option, none, some}
 use mathlib.Core.List.{List, [], _∷_}
-use Prim.Native.Nat.{ℕ, _≤_}
+use Prim.Native.Nat.{ℕ, _*_, _≤_}
 use native.Mathlib.Omega.{arith}
-use lib.Dec.{eqb}
-use lib.ListN.{length}
-use borrow.Author.Tests.{eqb-true, eqb-false, eq-eqb, ne-eqb, not-false, not-true}
+use lib.Dec.{eqb, leb}
 use lib.IntN.{ℤ, natAbs}
+use lib.ListN.{length, replicate}
+use borrow.Author.Tests.{leb-true, eqb-true, eqb-false, ne-eqb, not-false, not-true}
 use Rattle.packs.specs.declared.Outcome.{Outcome}
 use Rattle.packs.specs.declared.Outcome.the-variants.{Done, Refused as Refuses}
 use Rattle.jobs.specs.Words.{jobOf}
 use Rattle.jobs.specs.Packs.{readJob}
 use Rattle.jobs.proofs.Readings.{read-jobs-allowed}
+<<<<<<< ours
 use Rattle.slots.specs.Slots.{keptIn, forgotIn}
 use Rattle.checked.specs.Answers.{Reply, accepted, answerOf}
 use Rattle.shelf.specs.Shelf.{forgetReply, Layout, slotFrom, spanOf, sizeOf, onSociety, fromSociety, keptShelf, fetchFrom, fetchReply, forgotShelf, forgotReply}
+||||||| base
+use Rattle.shelf.specs.Slots.{Reply, keptIn, forgotIn, forgetReply}
+=======
+use Rattle.shelf.specs.declared.Row.{Row}
+use Rattle.shelf.specs.declared.Row.the-variants.{Right, Wrong}
+use Rattle.shelf.specs.Counts.{countIn, testRow}
+use Rattle.shelf.specs.Slots.{Reply, refusal, keptIn, forgotIn, forgetReply}
+use Rattle.shelf.specs.Checked.{Checked, checkedOf, accepted}
+>>>>>>> theirs
 use Rattle.shelf.specs.Fetched.{fetchIn, onJob}
+<<<<<<< ours
 use Rattle.checked.specs.Checked.{Checked, checkedOf}
 use Rattle.shelf.specs.Calls.{Call, keep, fetch, forget, clear, wholeAfter, wholeSaid, after, said, firstOf, named, is, isNot, names, namesOther}
 use Rattle.slots.proofs.Steps.{slot-length}
 use Rattle.slots.proofs.Sizes.{kept-length, forgot-length}
 use Rattle.shelf.proofs.Spans.{Lawful, span-length, society-length, own, other, from-same, cleared-length}
 use Rattle.shelf.proofs.Lengths.{on-whole, from-whole, on-other, from-other}
+||||||| base
+use Rattle.shelf.specs.Checked.{Checked, checkedOf, accepted, answerOf}
+use Rattle.shelf.specs.Shelf.{Layout, slotFrom, spanOf, sizeOf, onSociety, fromSociety, keptShelf, fetchFrom, fetchReply, forgotShelf, forgotReply}
+use Rattle.shelf.specs.Calls.{Call, keep, fetch, forget, clear, wholeAfter, wholeSaid, after, said, firstOf, named, is, isNot, names, namesOther}
+use Rattle.shelf.proofs.Moves.{slot-length}
+use Rattle.shelf.proofs.Sizes.{kept-length, forgot-length}
+use Rattle.shelf.proofs.Spans.{Lawful, span-length, society-length, own, other, from-same, cleared-length}
+use Rattle.shelf.proofs.Lengths.{on-whole, from-whole, on-other, from-other}
+=======
+use Rattle.shelf.specs.Shelf.{Ready, Layout, slotWords, shelfWords, rowed, rowIn, layoutIn, slotFrom, spanOf, spanIn, sizeOf, onSociety, fromSociety, keptShelf, fetchFrom, fetchReply, forgotShelf, forgotReply, cleared}
+use Rattle.shelf.specs.Calls.{Own, Call, keep, fetch, forget, own, clear, laidAfter, laidSaid, wholeAfter, wholeSaid, after, said, firstOf, namedBy, named, is, isNot, names, namesOther}
+use Rattle.shelf.proofs.Spans.{Lawful, own as its-own, other}
+use Rattle.shelf.proofs.Rows.{rowed-lawful, right-eight, cleared-row, cleared-length, cleared-span}
+use Rattle.shelf.proofs.Lengths.{on-other, from-other, said-right, said-wrong, after-right, after-wrong, clear-right, clear-wrong}
+>>>>>>> theirs
 use Rattle.shelf.proofs.Sound.{Sound, accepted-sound, accepted-named}
-use Rattle.claims.specs.Heard.{heard, without}
-
-eq-not : (a b : ℕ) → not (eqb a b) ≡ true → b ≡ a → ⊥
-eq-not a b n e = let y = eq-eqb a b (sym e) in let z : true ≡ false = sym (ap not (sym n ∙ ap not y)) in absurd (true≢false z)
+use Rattle.claims.specs.Heard.{heard, without, sent, onlyOwn}
+use Rattle.claims.specs.LastKept.{ClearedWith}
+use Rattle.claims.proofs.Steps.{keepStep, forgetStep, kept-same, forgot-same, laid-length, laid-row}
 
 -- ---- a call names this society, or another, or none
 not-other : (s : ℕ) (o : Option ℕ) → is s o ≡ true → isNot s o ≡ false
@@ -40,199 +66,345 @@ pub not-this : (s : ℕ) (o : Option ℕ) → isNot s o ≡ true → is s o ≡ 
 not-this s none n = refl
 not-this s (some t) n = not-true (eqb t s) n
 
-is-other : (s t : ℕ) (o : Option ℕ) → is s o ≡ true → (t ≡ s → ⊥) → isNot t o ≡ true
-is-other s t none n d = absurd (true≢false (sym n))
-is-other s t (some r) n d = let q = eqb-true r s n in ap not (ne-eqb r t (λ e. d (sym e ∙ q)))
+is-other : (s t : ℕ) (o : Option ℕ) → is s o ≡ true → (t ≡ s → ⊥) → is t o ≡ false
+is-other s t none n d = refl
+is-other s t (some r) n d = let q = eqb-true r s n in ne-eqb r t (λ e. d (sym e ∙ q))
 
-module _ (l : Layout) (ok : Lawful l) where
-  -- what a keep and a forget do to their own society's words
-  abbrev keepStep : Checked → List ℕ → List ℕ
-  keepStep o x = keptIn (l .words) (l .count (o .society)) (o .job) (slotFrom l o) x
+-- an accepted pack names the society that its table is kept for
+named-not : (s : ℕ) (job proposal : List ℕ) → is s (firstOf (readJob job .words)) ≡ false → accepted (checkedOf job proposal .verdict) ≡ true → s ≡ checkedOf job proposal .society → ⊥
+named-not s job proposal n e q = eqb-false (checkedOf job proposal .society) s (sym (ap (is s) (accepted-named job proposal e)) ∙ n) (sym q)
 
-  abbrev forgetStep : (society job : ℕ) → List ℕ → List ℕ
-  forgetStep s job x = forgotIn (l .words) (l .count s) job x
+named-this : (s : ℕ) (job proposal : List ℕ) → isNot s (firstOf (readJob job .words)) ≡ false → accepted (checkedOf job proposal .verdict) ≡ true → checkedOf job proposal .society ≡ s
+named-this s job proposal n e =
+    let t = checkedOf job proposal .society in
+    eqb-true t s (not-false (eqb t s) (sym (ap (isNot s) (accepted-named job proposal e)) ∙ n))
 
-  abbrev Long : List ℕ → Type 0
-  Long xs = length xs ≡ l .total
+-- ---- a call that does not name this society leaves its span
+module _ (row : List ℕ) (right : testRow row ≡ Right) (s : ℕ) (m : s ≤ 7) (xs : List ℕ) (len : length xs ≡ shelfWords) where
+  abbrev l : Layout
+  l = rowed row
 
-  kept-same : (o : Checked) (xs : List ℕ) → Long xs → Sound o → length (keepStep o (spanOf l (o .society) xs)) ≡ sizeOf l (o .society)
-  kept-same o xs len sound =
-      let h = sound .society in
-      kept-length (l .words) (l .count (o .society)) (spanOf l (o .society) xs) (span-length l ok (o .society) xs len h) (o .job) (slotFrom l o) (ok .some (o .society) h)
-      (slot-length (l .words) (o .job) (answerOf (o .verdict) .loss) (answerOf (o .verdict) .gap) (o .values) (o .multipliers) (sound .few) (omega (arith, sound .links, ok .wide)))
+  ok : Lawful l
+  ok = rowed-lawful row right
 
-  forgot-same : (s job : ℕ) (xs : List ℕ) → Long xs → s ≤ 7 → length (forgetStep s job (spanOf l s xs)) ≡ sizeOf l s
-  forgot-same s job xs len h = forgot-length (l .words) (l .count s) (spanOf l s xs) (span-length l ok s xs len h) job
-
-  -- ---- the shelf keeps its length
-  kept-long : (o : Checked) → (accepted (o .verdict) ≡ true → Sound o) → (xs : List ℕ) → Long xs → Long (keptShelf l o xs)
+  kept-stays : (o : Checked) → (accepted (o .verdict) ≡ true → Sound o × (s ≡ o .society → ⊥)) → spanOf l s (keptShelf l o xs) ≡ spanOf l s xs
   unfolding keptShelf
-  kept-long o sound xs len = go (accepted (o .verdict)) refl
+  kept-stays o sound = go (accepted (o .verdict)) refl
     where
-      go : (b : Bool) → accepted (o .verdict) ≡ b → length (cond b (onSociety l (o .society) (keepStep o) xs) xs) ≡ l .total
-      go true e = society-length l ok (o .society) (keepStep o) xs len (λ h. kept-same o xs len (sound e))
-      go false e = len
-
-  whole-length : (call : Call) (xs : List ℕ) → Long xs → Long (wholeAfter l xs call)
-  unfolding forgotShelf
-  whole-length (keep job proposal) xs len = kept-long (checkedOf job proposal) (accepted-sound job proposal) xs len
-  whole-length (fetch job room) xs len = len
-  whole-length (forget s job) xs len = society-length l ok s (forgetStep s job) xs len (forgot-same s job xs len)
-  whole-length clear xs len = cleared-length l ok
-
-  -- ---- a call that names another society leaves this one's span
-  kept-stays : (s : ℕ) → s ≤ 7 → (o : Checked) → (accepted (o .verdict) ≡ true → Sound o × (s ≡ o .society → ⊥)) → (xs : List ℕ) → Long xs → spanOf l s (keptShelf l o xs) ≡ spanOf l s xs
-  unfolding keptShelf
-  kept-stays s m o sound xs len = go (accepted (o .verdict)) refl
-    where
-      go : (b : Bool) → accepted (o .verdict) ≡ b → spanOf l s (cond b (onSociety l (o .society) (keepStep o) xs) xs) ≡ spanOf l s xs
-      go true e = other l ok (o .society) (keepStep o) xs len (λ h. kept-same o xs len (sound e .0)) s m (sound e .1)
+      go : (b : Bool) → accepted (o .verdict) ≡ b → spanOf l s (cond b (onSociety l (o .society) (keepStep l ok o) xs) xs) ≡ spanOf l s xs
+      go true e = other l ok (o .society) (keepStep l ok o) xs len (λ h. kept-same l ok o xs len (sound e .0)) s m (sound e .1)
       go false e = refl
 
-  -- an accepted pack names the society that its table is kept for
-  named-not : (s : ℕ) (job proposal : List ℕ) → namesOther s (keep job proposal) ≡ true → accepted (checkedOf job proposal .verdict) ≡ true → s ≡ checkedOf job proposal .society → ⊥
-  named-not s job proposal n e = eq-not (checkedOf job proposal .society) s (sym (ap (isNot s) (accepted-named job proposal e)) ∙ n)
-
-  named-this : (s : ℕ) (job proposal : List ℕ) → namesOther s (keep job proposal) ≡ false → accepted (checkedOf job proposal .verdict) ≡ true → checkedOf job proposal .society ≡ s
-  named-this s job proposal n e =
-      let t = checkedOf job proposal .society in
-      eqb-true t s (not-false (eqb t s) (sym (ap (isNot s) (accepted-named job proposal e)) ∙ n))
-
-  whole-stays : (s : ℕ) → s ≤ 7 → (call : Call) (xs : List ℕ) → Long xs → namesOther s call ≡ true → spanOf l s (wholeAfter l xs call) ≡ spanOf l s xs
+  laid-stays : (call : Own) → is s (namedBy call) ≡ false → spanOf l s (laidAfter l xs call) ≡ spanOf l s xs
   unfolding forgotShelf
-  whole-stays s m (keep job proposal) xs len n = kept-stays s m (checkedOf job proposal) (λ e. (accepted-sound job proposal e, named-not s job proposal n e)) xs len
-  whole-stays s m (fetch job room) xs len n = refl
-  whole-stays s m (forget t job) xs len n = other l ok t (forgetStep t job) xs len (forgot-same t job xs len) s m (eq-not t s n)
-  whole-stays s m clear xs len n = absurd (true≢false (sym n))
+  laid-stays (keep job proposal) n = kept-stays (checkedOf job proposal) (λ e. (accepted-sound job proposal e, named-not s job proposal n e))
+  laid-stays (fetch job room) n = refl
+  laid-stays (forget t job) n = other l ok t (forgetStep l ok t job) xs len (forgot-same l ok t job xs len) s m (λ q. eqb-false t s n (sym q))
 
-  -- ---- a call that names no other society does to this one's span what that span alone decides
-  module _ (s : ℕ) (xs ys : List ℕ) (lx : Long xs) (ly : Long ys) (a : s ≤ 7 → spanOf l s xs ≡ spanOf l s ys) where
-    on-same : (f : List ℕ → List ℕ) (t : ℕ) → t ≡ s → (t ≤ 7 → length (f (spanOf l t xs)) ≡ sizeOf l t) → (t ≤ 7 → length (f (spanOf l t ys)) ≡ sizeOf l t) → s ≤ 7
-        → spanOf l s (onSociety l t f xs) ≡ spanOf l s (onSociety l t f ys)
-    on-same f t q sx sy m =
-        let h : t ≤ 7 = omega arith in
-        let b : spanOf l t xs ≡ spanOf l t ys = subst (λ (r : ℕ). spanOf l r xs ≡ spanOf l r ys) (sym q) (a m) in
-        subst (λ (r : ℕ). spanOf l r (onSociety l t f xs) ≡ spanOf l r (onSociety l t f ys)) q (own l ok t f xs lx sx h ∙ ap f b ∙ sym (own l ok t f ys ly sy h))
+-- ---- one that names no other society does to its span what that span and its count decide, wherever it starts
+module _ (rx ry : List ℕ) (ex : testRow rx ≡ Right) (ey : testRow ry ≡ Right) (s : ℕ) (xs ys : List ℕ) (lx : length xs ≡ shelfWords) (ly : length ys ≡ shelfWords)
+    (ec : countIn rx s ≡ countIn ry s) (a : s ≤ 7 → spanOf (rowed rx) s xs ≡ spanOf (rowed ry) s ys) where
+  abbrev lx' : Layout
+  lx' = rowed rx
 
-    keep-same : (o : Checked) → (accepted (o .verdict) ≡ true → Sound o × (o .society ≡ s)) → s ≤ 7 → spanOf l s (keptShelf l o xs) ≡ spanOf l s (keptShelf l o ys)
-    unfolding keptShelf
-    keep-same o sound m = go (accepted (o .verdict)) refl
-      where
-        go : (b : Bool) → accepted (o .verdict) ≡ b → spanOf l s (cond b (onSociety l (o .society) (keepStep o) xs) xs) ≡ spanOf l s (cond b (onSociety l (o .society) (keepStep o) ys) ys)
-        go true e = let k = sound e in on-same (keepStep o) (o .society) (k .1) (λ h. kept-same o xs lx (k .0)) (λ h. kept-same o ys ly (k .0)) m
-        go false e = a m
+  abbrev ly' : Layout
+  ly' = rowed ry
 
-    forget-same : (t job : ℕ) → t ≡ s → s ≤ 7 → spanOf l s (forgotShelf l t job xs) ≡ spanOf l s (forgotShelf l t job ys)
-    unfolding forgotShelf
-    forget-same t job q m = on-same (forgetStep t job) t q (forgot-same t job xs lx) (forgot-same t job ys ly) m
+  okx : Lawful lx'
+  okx = rowed-lawful rx ex
 
-    from-own : (t : ℕ) (f : List ℕ → Reply) → t ≡ s → fromSociety l t f xs ≡ fromSociety l t f ys
-    from-own t f q = from-same l t f xs ys (λ h. subst (λ (r : ℕ). spanOf l r xs ≡ spanOf l r ys) (sym q) (a (subst (λ (r : ℕ). r ≤ 7) q h)))
+  oky : Lawful ly'
+  oky = rowed-lawful ry ey
 
-    whole-own : (call : Call) → namesOther s call ≡ false → s ≤ 7 → spanOf l s (wholeAfter l xs call) ≡ spanOf l s (wholeAfter l ys call)
-    whole-own (keep job proposal) n m = keep-same (checkedOf job proposal) (λ e. (accepted-sound job proposal e, named-this s job proposal n e)) m
-    whole-own (fetch job room) n m = a m
-    whole-own (forget t job) n m = forget-same t job (eqb-true t s (not-false (eqb t s) n)) m
-    whole-own clear n m = refl
+  counts : (t : ℕ) → t ≡ s → countIn rx t ≡ countIn ry t
+  counts t q = subst (λ (r : ℕ). countIn rx r ≡ countIn ry r) (sym q) ec
 
-    whole-told : (call : Call) → names s call ≡ true → wholeSaid l xs call ≡ wholeSaid l ys call
-    unfolding fetchReply forgotReply
-    whole-told (keep job proposal) n = refl
-    whole-told (fetch job room) n = go (readJob job .outcome) refl
-      where
-        -- a pack that reads names its job's society
-        named-own : (words : List ℤ) → is s (firstOf words) ≡ true → jobOf words .society ≡ s
-        named-own [] e = absurd (true≢false (sym e))
-        named-own (word ∷ words) e = eqb-true (natAbs word) s e
+  spans : (t : ℕ) → t ≡ s → t ≤ 7 → spanOf lx' t xs ≡ spanOf ly' t ys
+  spans t q h = subst (λ (r : ℕ). spanOf lx' r xs ≡ spanOf ly' r ys) (sym q) (a (subst (λ (r : ℕ). r ≤ 7) q h))
 
-        go : (o : Outcome) → readJob job .outcome ≡ o → onJob o (fetchFrom l (jobOf (readJob job .words)) room xs) ≡ onJob o (fetchFrom l (jobOf (readJob job .words)) room ys)
-        go (Done k) e =
-            let j = jobOf (readJob job .words) in
-            let q = named-own (readJob job .words) n in
-            let h = read-jobs-allowed job k e .society in
-            let b : spanOf l (j .society) xs ≡ spanOf l (j .society) ys = subst (λ (r : ℕ). spanOf l r xs ≡ spanOf l r ys) (sym q) (a (subst (λ (r : ℕ). r ≤ 7) q h)) in
-            ap {B = Reply} (fetchIn (l .words) (l .count (j .society)) j room) b
-        go (Refuses number place) e = refl
-    whole-told (forget t job) n = from-own t (forgetReply (l .words) (l .count t) job) (eqb-true t s n)
-    whole-told clear n = refl
+  on-same : (f : ℕ → List ℕ → List ℕ) (t : ℕ) → t ≡ s → (t ≤ 7 → length (f (countIn rx t) (spanOf lx' t xs)) ≡ sizeOf lx' t) → (t ≤ 7 → length (f (countIn ry t) (spanOf ly' t ys)) ≡ sizeOf ly' t)
+      → s ≤ 7 → spanOf lx' s (onSociety lx' t (f (countIn rx t)) xs) ≡ spanOf ly' s (onSociety ly' t (f (countIn ry t)) ys)
+  on-same f t q sx sy m =
+      let h : t ≤ 7 = omega arith in
+      subst (λ (r : ℕ). spanOf lx' r (onSociety lx' t (f (countIn rx t)) xs) ≡ spanOf ly' r (onSociety ly' t (f (countIn ry t)) ys)) q
+      (its-own lx' okx t (f (countIn rx t)) xs lx sx h ∙ ap₂ f (counts t q) (spans t q h) ∙ sym (its-own ly' oky t (f (countIn ry t)) ys ly sy h))
 
-  -- ---- the same on any words: a shelf of another length is refused, and stays
-  abbrev Told : Call → List ℕ → List ℕ → Type 0
-  Told call xs ys = said l xs call ≡ said l ys call
-
-  pub after-length : (call : Call) (xs : List ℕ) → length (after l xs call) ≡ length xs
-  after-length call xs = go (eqb (length xs) (l .total)) refl
+  keep-same : (o : Checked) → (accepted (o .verdict) ≡ true → Sound o × (o .society ≡ s)) → s ≤ 7 → spanOf lx' s (keptShelf lx' o xs) ≡ spanOf ly' s (keptShelf ly' o ys)
+  unfolding keptShelf
+  keep-same o sound m = go (accepted (o .verdict)) refl
     where
-      go : (b : Bool) → eqb (length xs) (l .total) ≡ b → length (after l xs call) ≡ length xs
+      go : (b : Bool) → accepted (o .verdict) ≡ b
+          → spanOf lx' s (cond b (onSociety lx' (o .society) (keepStep lx' okx o) xs) xs) ≡ spanOf ly' s (cond b (onSociety ly' (o .society) (keepStep ly' oky o) ys) ys)
       go true e =
-          let h = eqb-true (length xs) (l .total) e in
-          ap length (sym (on-whole l xs h (λ s. wholeAfter l s call))) ∙ whole-length call xs h ∙ sym h
-      go false e = ap length (sym (on-other l xs (eqb-false (length xs) (l .total) e) (λ s. wholeAfter l s call)))
+          let k = sound e in
+          on-same (λ c x. keptIn slotWords c (o .job) (slotFrom lx' o) x) (o .society) (k .1) (λ h. kept-same lx' okx o xs lx (k .0)) (λ h. kept-same ly' oky o ys ly (k .0)) m
+      go false e = a m
 
-  pub other-stays : (s : ℕ) → s ≤ 7 → (call : Call) (xs : List ℕ) → namesOther s call ≡ true → spanOf l s (after l xs call) ≡ spanOf l s xs
-  other-stays s m call xs n = go (eqb (length xs) (l .total)) refl
+  forget-same : (t job : ℕ) → t ≡ s → s ≤ 7 → spanOf lx' s (forgotShelf lx' t job xs) ≡ spanOf ly' s (forgotShelf ly' t job ys)
+  unfolding forgotShelf
+  forget-same t job q m = on-same (λ c x. forgotIn slotWords c job x) t q (forgot-same lx' okx t job xs lx) (forgot-same ly' oky t job ys ly) m
+
+  from-own : (t : ℕ) (f : ℕ → List ℕ → Reply) → t ≡ s → fromSociety lx' t (f (countIn rx t)) xs ≡ fromSociety ly' t (f (countIn ry t)) ys
+  unfolding fromSociety
+  from-own t f q = go (leb t 7) refl
     where
-      go : (b : Bool) → eqb (length xs) (l .total) ≡ b → spanOf l s (after l xs call) ≡ spanOf l s xs
-      go true e =
-          let h = eqb-true (length xs) (l .total) e in
-          ap (spanOf l s) (sym (on-whole l xs h (λ s. wholeAfter l s call))) ∙ whole-stays s m call xs h n
-      go false e = ap (spanOf l s) (sym (on-other l xs (eqb-false (length xs) (l .total) e) (λ s. wholeAfter l s call)))
+      go : (b : Bool) → leb t 7 ≡ b → cond b (f (countIn rx t) (spanOf lx' t xs)) (refusal 11 0) ≡ cond b (f (countIn ry t) (spanOf ly' t ys)) (refusal 11 0)
+      go true e = ap₂ {C = Reply} f (counts t q) (spans t q (leb-true t 7 e))
+      go false e = refl
 
-  module _ (s : ℕ) (xs ys : List ℕ) (same : length xs ≡ length ys) (a : s ≤ 7 → spanOf l s xs ≡ spanOf l s ys) where
-    pub own-after : (call : Call) → namesOther s call ≡ false → s ≤ 7 → spanOf l s (after l xs call) ≡ spanOf l s (after l ys call)
-    own-after call n m = go (eqb (length xs) (l .total)) refl
-      where
-        go : (b : Bool) → eqb (length xs) (l .total) ≡ b → spanOf l s (after l xs call) ≡ spanOf l s (after l ys call)
-        go true e =
-            let h = eqb-true (length xs) (l .total) e in
-            let k = sym same ∙ h in
-            ap (spanOf l s) (sym (on-whole l xs h (λ s. wholeAfter l s call))) ∙ whole-own s xs ys h k a call n m ∙ ap (spanOf l s) (on-whole l ys k (λ s. wholeAfter l s call))
-        go false e =
-            let h = eqb-false (length xs) (l .total) e in
-            ap (spanOf l s) (sym (on-other l xs h (λ s. wholeAfter l s call))) ∙ a m ∙ ap (spanOf l s) (on-other l ys (λ k. h (same ∙ k)) (λ s. wholeAfter l s call))
+  laid-own : (call : Own) → isNot s (namedBy call) ≡ false → s ≤ 7 → spanOf lx' s (laidAfter lx' xs call) ≡ spanOf ly' s (laidAfter ly' ys call)
+  laid-own (keep job proposal) n m = keep-same (checkedOf job proposal) (λ e. (accepted-sound job proposal e, named-this s job proposal n e)) m
+  laid-own (fetch job room) n m = a m
+  laid-own (forget t job) n m = forget-same t job (eqb-true t s (not-false (eqb t s) n)) m
 
-    pub own-said : (call : Call) → names s call ≡ true → Told call xs ys
-    own-said call n = go (eqb (length xs) (l .total)) refl
-      where
-        go : (b : Bool) → eqb (length xs) (l .total) ≡ b → Told call xs ys
-        go true e =
-            let h = eqb-true (length xs) (l .total) e in
-            let k = sym same ∙ h in
-            sym (from-whole l xs h (λ s. wholeSaid l s call)) ∙ whole-told s xs ys h k a call n ∙ from-whole l ys k (λ s. wholeSaid l s call)
-        go false e =
-            let h = eqb-false (length xs) (l .total) e in
-            sym (from-other l xs h (λ s. wholeSaid l s call)) ∙ from-other l ys (λ k. h (same ∙ k)) (λ s. wholeSaid l s call)
-
-  -- for any lawful layout
-  pub alone-call : (society : ℕ) → society ≤ 7 → (call : Call) → names society call ≡ true
-      → (xs ys : List ℕ) → length xs ≡ length ys → spanOf l society xs ≡ spanOf l society ys
-      → (said l xs call ≡ said l ys call) × (spanOf l society (after l xs call) ≡ spanOf l society (after l ys call))
-  alone-call s m call n xs ys same a = (own-said s xs ys same (λ h. a) call n, own-after s xs ys same (λ h. a) call (not-other s (named call) n) m)
-
-  pub others-stay : (society : ℕ) → (call : Call) → names society call ≡ true → (xs : List ℕ) (neighbour : ℕ) → neighbour ≤ 7 → (neighbour ≡ society → ⊥)
-      → spanOf l neighbour (after l xs call) ≡ spanOf l neighbour xs
-  others-stay s call n xs t h d = other-stays t h call xs (is-other s t (named call) n d)
-
-  -- ---- sequences
-  run-same : (s : ℕ) (calls : List Call) (xs ys : List ℕ) → length xs ≡ length ys → (s ≤ 7 → spanOf l s xs ≡ spanOf l s ys) → heard l s xs calls ≡ heard l s ys (without s calls)
-  run-same s [] xs ys same a = refl
-  run-same s (call ∷ calls) xs ys same a =
-      go (namesOther s call) refl
-      (λ n. run-same s calls (after l xs call) ys (after-length call xs ∙ same) (λ h. other-stays s h call xs n ∙ a h))
-      (λ n. run-same s calls (after l xs call) (after l ys call) (after-length call xs ∙ same ∙ sym (after-length call ys)) (own-after s xs ys same a call n))
+  laid-told : (call : Own) → is s (namedBy call) ≡ true → laidSaid lx' xs call ≡ laidSaid ly' ys call
+  unfolding fetchReply forgotReply
+  laid-told (keep job proposal) n = refl
+  laid-told (fetch job room) n = go (readJob job .outcome) refl
     where
-      -- a call that stays
-      stays : (o : Bool) → names s call ≡ o → heard l s (after l xs call) calls ≡ heard l s (after l ys call) (without s calls)
-          → cond o (said l xs call ∷ heard l s (after l xs call) calls) (heard l s (after l xs call) calls)
-          ≡ cond o (said l ys call ∷ heard l s (after l ys call) (without s calls)) (heard l s (after l ys call) (without s calls))
-      stays true n e = ap (λ (r : Reply). r ∷ heard l s (after l xs call) calls) (own-said s xs ys same a call n) ∙ ap (λ (rs : List Reply). said l ys call ∷ rs) e
-      stays false n e = e
+      -- a pack that reads names its job's society
+      named-own : (words : List ℤ) → is s (firstOf words) ≡ true → jobOf words .society ≡ s
+      named-own [] e = absurd (true≢false (sym e))
+      named-own (word ∷ words) e = eqb-true (natAbs word) s e
 
-      go : (b : Bool) → namesOther s call ≡ b → (namesOther s call ≡ true → heard l s (after l xs call) calls ≡ heard l s ys (without s calls))
-          → (namesOther s call ≡ false → heard l s (after l xs call) calls ≡ heard l s (after l ys call) (without s calls))
-          → heard l s xs (call ∷ calls) ≡ heard l s ys (cond b (without s calls) (call ∷ without s calls))
-      go true n p q = ap (λ (o : Bool). cond o (said l xs call ∷ heard l s (after l xs call) calls) (heard l s (after l xs call) calls)) (not-this s (named call) n) ∙ p n
-      go false n p q = stays (names s call) refl (q n)
+      go : (o : Outcome) → readJob job .outcome ≡ o → onJob o (fetchFrom lx' (jobOf (readJob job .words)) room xs) ≡ onJob o (fetchFrom ly' (jobOf (readJob job .words)) room ys)
+      go (Done k) e =
+          let j = jobOf (readJob job .words) in
+          let q = named-own (readJob job .words) n in
+          ap₂ {C = Reply} (λ (c : ℕ) (x : List ℕ). fetchIn slotWords c j room x) (counts (j .society) q) (spans (j .society) q (read-jobs-allowed job k e .society))
+      go (Refuses number place) e = refl
+  laid-told (forget t job) n = from-own t (λ c x. forgetReply slotWords c job x) (eqb-true t s n)
 
-  pub alone : (society : ℕ) (calls : List Call) (xs : List ℕ) → heard l society xs calls ≡ heard l society xs (without society calls)
-  alone society calls xs = run-same society calls xs xs refl (λ h. refl)
+-- ---- on any words: a shelf has another length, or a row that is wrong, or is ready
+by-state : (xs : List ℕ) (P : Type 0) → (length xs ≡ shelfWords → testRow (rowIn xs) ≡ Right → P)
+    → (length xs ≡ shelfWords → (place : ℕ) → testRow (rowIn xs) ≡ Wrong place → P) → ((length xs ≡ shelfWords → ⊥) → P) → P
+by-state xs P r w n = go (eqb (length xs) shelfWords) refl (testRow (rowIn xs)) refl
+  where
+    go : (b : Bool) → eqb (length xs) shelfWords ≡ b → (o : Row) → testRow (rowIn xs) ≡ o → P
+    go true e Right f = r (eqb-true (length xs) shelfWords e) f
+    go true e (Wrong place) f = w (eqb-true (length xs) shelfWords e) place f
+    go false e o f = n (eqb-false (length xs) shelfWords e)
+
+-- the row stays
+pub row-of : (call : Own) (xs : List ℕ) → rowIn (after xs (own call)) ≡ rowIn xs
+row-of call xs =
+    by-state xs (rowIn (after xs (own call)) ≡ rowIn xs)
+    (λ len e. ap rowIn (sym (after-right xs len e call)) ∙ laid-row (rowIn xs) e call xs len)
+    (λ len place e. ap rowIn (sym (after-wrong xs len place e call)))
+    (λ n. ap rowIn (sym (on-other xs n (λ s. wholeAfter s (own call)))))
+
+length-of : (call : Own) (xs : List ℕ) → length (after xs (own call)) ≡ length xs
+length-of call xs =
+    by-state xs (length (after xs (own call)) ≡ length xs)
+    (λ len e. ap length (sym (after-right xs len e call)) ∙ laid-length (layoutIn xs) (rowed-lawful (rowIn xs) e) call xs len ∙ sym len)
+    (λ len place e. ap length (sym (after-wrong xs len place e call)))
+    (λ n. ap length (sym (on-other xs n (λ s. wholeAfter s (own call)))))
+
+-- the span by the row as it was
+span-of : (s : ℕ) (call : Own) (xs : List ℕ) → spanIn s (after xs (own call)) ≡ spanOf (layoutIn xs) s (after xs (own call))
+span-of s call xs = ap (λ (r : List ℕ). spanOf (rowed r) s (after xs (own call))) (row-of call xs)
+
+-- a call that does not name the society leaves its span
+stays : (s : ℕ) → s ≤ 7 → (call : Own) → is s (namedBy call) ≡ false → (xs : List ℕ) → spanIn s (after xs (own call)) ≡ spanIn s xs
+stays s m call n xs =
+    span-of s call xs ∙ by-state xs (spanOf (layoutIn xs) s (after xs (own call)) ≡ spanIn s xs)
+    (λ len e. ap (spanOf (layoutIn xs) s) (sym (after-right xs len e call)) ∙ laid-stays (rowIn xs) e s m xs len call n)
+    (λ len place e. ap (spanOf (layoutIn xs) s) (sym (after-wrong xs len place e call)))
+    (λ f. ap (spanOf (layoutIn xs) s) (sym (on-other xs f (λ z. wholeAfter z (own call)))))
+
+pub others-stay : (society : ℕ) (call : Own) → names society (own call) ≡ true → (xs : List ℕ) (neighbour : ℕ) → neighbour ≤ 7 → (neighbour ≡ society → ⊥)
+    → spanIn neighbour (after xs (own call)) ≡ spanIn neighbour xs
+others-stay s call n xs t h d = stays t h call (is-other s t (namedBy call) n d) xs
+
+-- ---- two shelves that are ready
+module _ (s : ℕ) (xs ys : List ℕ) (x : Ready xs) (y : Ready ys) (ec : countIn (rowIn xs) s ≡ countIn (rowIn ys) s) (a : s ≤ 7 → spanIn s xs ≡ spanIn s ys) where
+  told-ready : (call : Own) → is s (namedBy call) ≡ true → said xs (own call) ≡ said ys (own call)
+  told-ready call n =
+      sym (said-right xs (x .long) (x .row) call) ∙ laid-told (rowIn xs) (rowIn ys) (x .row) (y .row) s xs ys (x .long) (y .long) ec a call n ∙ said-right ys (y .long) (y .row) call
+
+  span-ready : (call : Own) → isNot s (namedBy call) ≡ false → s ≤ 7 → spanIn s (after xs (own call)) ≡ spanIn s (after ys (own call))
+  span-ready call n m =
+      span-of s call xs ∙ ap (spanOf (layoutIn xs) s) (sym (after-right xs (x .long) (x .row) call))
+      ∙ laid-own (rowIn xs) (rowIn ys) (x .row) (y .row) s xs ys (x .long) (y .long) ec a call n m
+      ∙ ap (spanOf (layoutIn ys) s) (after-right ys (y .long) (y .row) call) ∙ sym (span-of s call ys)
+
+pub alone-call : (society : ℕ) → society ≤ 7 → (call : Own) → names society (own call) ≡ true
+    → (xs ys : List ℕ) → Ready xs → Ready ys → countIn (rowIn xs) society ≡ countIn (rowIn ys) society → spanIn society xs ≡ spanIn society ys
+    → (said xs (own call) ≡ said ys (own call)) × (spanIn society (after xs (own call)) ≡ spanIn society (after ys (own call)))
+alone-call s m call n xs ys x y ec a = (told-ready s xs ys x y ec (λ h. a) call n, span-ready s xs ys x y ec (λ h. a) call (not-other s (namedBy call) n) m)
+
+-- ---- two shelves of one length with one row and one span, whatever they are
+record Alike (s : ℕ) (xs ys : List ℕ) : Type 0 where
+  long : length xs ≡ length ys
+  row : rowIn xs ≡ rowIn ys
+  span : s ≤ 7 → spanIn s xs ≡ spanIn s ys
+
+module _ (s : ℕ) (xs ys : List ℕ) (k : Alike s xs ys) where
+  other-alike : (call : Own) → is s (namedBy call) ≡ false → Alike s (after xs (own call)) ys
+  other-alike call n = record { long = length-of call xs ∙ k .long; row = row-of call xs ∙ k .row; span = λ h. stays s h call n xs ∙ k .span h }
+
+  -- the other shelf is in the same state
+  also : length xs ≡ shelfWords → length ys ≡ shelfWords
+  also len = sym (k .long) ∙ len
+
+  also-not : (length xs ≡ shelfWords → ⊥) → length ys ≡ shelfWords → ⊥
+  also-not n e = n (k .long ∙ e)
+
+  tested : {o : Row} → testRow (rowIn xs) ≡ o → testRow (rowIn ys) ≡ o
+  tested e = ap {B = Row} testRow (sym (k .row)) ∙ e
+
+  same-count : countIn (rowIn xs) s ≡ countIn (rowIn ys) s
+  same-count = ap (λ (r : List ℕ). countIn r s) (k .row)
+
+  own-span : (call : Own) → isNot s (namedBy call) ≡ false → s ≤ 7 → spanIn s (after xs (own call)) ≡ spanIn s (after ys (own call))
+  own-span call n m =
+      by-state xs (spanIn s (after xs (own call)) ≡ spanIn s (after ys (own call)))
+      (λ len e. span-ready s xs ys (record { long = len; row = e }) (record { long = also len; row = tested e }) same-count (k .span) call n m)
+      (λ len place e. ap (spanIn s) (sym (after-wrong xs len place e call)) ∙ k .span m ∙ ap (spanIn s) (after-wrong ys (also len) place (tested e) call))
+      (λ f. ap (spanIn s) (sym (on-other xs f (λ z. wholeAfter z (own call)))) ∙ k .span m ∙ ap (spanIn s) (on-other ys (also-not f) (λ z. wholeAfter z (own call))))
+
+  own-alike : (call : Own) → isNot s (namedBy call) ≡ false → Alike s (after xs (own call)) (after ys (own call))
+  own-alike call n = record {
+    long = length-of call xs ∙ k .long ∙ sym (length-of call ys);
+    row = row-of call xs ∙ k .row ∙ sym (row-of call ys);
+    span = own-span call n;
+  }
+
+  own-told : (call : Own) → is s (namedBy call) ≡ true → said xs (own call) ≡ said ys (own call)
+  own-told call n =
+      by-state xs (said xs (own call) ≡ said ys (own call))
+      (λ len e. told-ready s xs ys (record { long = len; row = e }) (record { long = also len; row = tested e }) same-count (k .span) call n)
+      (λ len place e. sym (said-wrong xs len place e call) ∙ said-wrong ys (also len) place (tested e) call)
+      (λ f. sym (from-other xs f (λ z. wholeSaid z (own call))) ∙ from-other ys (also-not f) (λ z. wholeSaid z (own call)))
+
+  -- clearing
+  clear-alike : (counts : List ℕ) → Alike s (after xs (clear counts)) (after ys (clear counts))
+  clear-alike counts = go (eqb (length xs) shelfWords) refl (testRow (rowIn counts)) refl
+    where
+      go : (b : Bool) → eqb (length xs) shelfWords ≡ b → (o : Row) → testRow (rowIn counts) ≡ o → Alike s (after xs (clear counts)) (after ys (clear counts))
+      go true e Right f =
+          let len = eqb-true (length xs) shelfWords e in
+          let row = rowIn counts in
+          let eight = right-eight counts f in
+          let cx = cleared-row row eight f xs len in
+          let cy = cleared-row row eight f ys (also len) in
+          subst (λ (zs : List ℕ). Alike s zs (after ys (clear counts))) (clear-right xs len counts f .1)
+          (subst (λ (zs : List ℕ). Alike s (cleared row xs) zs) (clear-right ys (also len) counts f .1) (record {
+            long = cleared-length row eight f xs len ∙ sym (cleared-length row eight f ys (also len));
+            row = cx ∙ sym cy;
+            span = λ h.
+                ap (λ (r : List ℕ). spanOf (rowed r) s (cleared row xs)) cx ∙ cleared-span row eight f xs len s h
+                ∙ sym (ap (λ (r : List ℕ). spanOf (rowed r) s (cleared row ys)) cy ∙ cleared-span row eight f ys (also len) s h);
+          }))
+      go true e (Wrong place) f =
+          let len = eqb-true (length xs) shelfWords e in
+          subst (λ (zs : List ℕ). Alike s zs (after ys (clear counts))) (clear-wrong xs len counts place f .1)
+          (subst (λ (zs : List ℕ). Alike s xs zs) (clear-wrong ys (also len) counts place f .1) k)
+      go false e o f =
+          let n = eqb-false (length xs) shelfWords e in
+          subst (λ (zs : List ℕ). Alike s zs (after ys (clear counts))) (on-other xs n (λ z. wholeAfter z (clear counts)))
+          (subst (λ (zs : List ℕ). Alike s xs zs) (on-other ys (also-not n) (λ z. wholeAfter z (clear counts))) k)
+
+  stays-alike : (call : Call) → namesOther s call ≡ false → Alike s (after xs call) (after ys call)
+  stays-alike (own call) n = own-alike call n
+  stays-alike (clear counts) n = clear-alike counts
+
+  left-alike : (call : Call) → namesOther s call ≡ true → Alike s (after xs call) ys
+  left-alike (own call) n = other-alike call (not-this s (namedBy call) n)
+  left-alike (clear counts) n = absurd (true≢false (sym n))
+
+  told-alike : (call : Call) → names s call ≡ true → said xs call ≡ said ys call
+  told-alike (own call) n = own-told call n
+  told-alike (clear counts) n = absurd (true≢false (sym n))
+
+-- ---- sequences
+run-same : (s : ℕ) (calls : List Call) (xs ys : List ℕ) → Alike s xs ys → heard s xs calls ≡ heard s ys (without s calls)
+run-same s [] xs ys k = refl
+run-same s (call ∷ calls) xs ys k =
+    go (namesOther s call) refl
+    (λ n. run-same s calls (after xs call) ys (left-alike s xs ys k call n))
+    (λ n. run-same s calls (after xs call) (after ys call) (stays-alike s xs ys k call n))
+  where
+    -- a call that stays
+    kept : (o : Bool) → names s call ≡ o → heard s (after xs call) calls ≡ heard s (after ys call) (without s calls)
+        → cond o (said xs call ∷ heard s (after xs call) calls) (heard s (after xs call) calls)
+        ≡ cond o (said ys call ∷ heard s (after ys call) (without s calls)) (heard s (after ys call) (without s calls))
+    kept true n e = ap (λ (r : Reply). r ∷ heard s (after xs call) calls) (told-alike s xs ys k call n) ∙ ap (λ (rs : List Reply). said ys call ∷ rs) e
+    kept false n e = e
+
+    go : (b : Bool) → namesOther s call ≡ b → (namesOther s call ≡ true → heard s (after xs call) calls ≡ heard s ys (without s calls))
+        → (namesOther s call ≡ false → heard s (after xs call) calls ≡ heard s (after ys call) (without s calls))
+        → heard s xs (call ∷ calls) ≡ heard s ys (cond b (without s calls) (call ∷ without s calls))
+    go true n p q = ap (λ (o : Bool). cond o (said xs call ∷ heard s (after xs call) calls) (heard s (after xs call) calls)) (not-this s (named call) n) ∙ p n
+    go false n p q = kept (names s call) refl (q n)
+
+pub alone : (society : ℕ) (calls : List Call) (xs : List ℕ) → heard society xs calls ≡ heard society xs (without society calls)
+alone society calls xs = run-same society calls xs xs (record { long = refl; row = refl; span = λ h. refl })
+
+-- ---- two shelves that are ready, with one count and one span of the society, whatever else they are
+record Near (s : ℕ) (xs ys : List ℕ) : Type 0 where
+  x : Ready xs
+  y : Ready ys
+  count : countIn (rowIn xs) s ≡ countIn (rowIn ys) s
+  span : spanIn s xs ≡ spanIn s ys
+
+ready-after : (call : Own) (xs : List ℕ) → Ready xs → Ready (after xs (own call))
+ready-after call xs r = record { long = length-of call xs ∙ r .long; row = ap {B = Row} testRow (row-of call xs) ∙ r .row }
+
+count-after : (s : ℕ) (call : Own) (xs : List ℕ) → countIn (rowIn (after xs (own call))) s ≡ countIn (rowIn xs) s
+count-after s call xs = ap (λ (r : List ℕ). countIn r s) (row-of call xs)
+
+own-run : (s : ℕ) → s ≤ 7 → (calls : List Own) (xs ys : List ℕ) → Near s xs ys → heard s xs (sent calls) ≡ heard s ys (sent (onlyOwn s calls))
+own-run s m [] xs ys k = refl
+own-run s m (call ∷ calls) xs ys k =
+    go (names s (own call)) refl
+    (λ n. own-run s m calls (after xs (own call)) (after ys (own call)) (record {
+      x = ready-after call xs (k .x);
+      y = ready-after call ys (k .y);
+      count = count-after s call xs ∙ k .count ∙ sym (count-after s call ys);
+      span = span-ready s xs ys (k .x) (k .y) (k .count) (λ h. k .span) call (not-other s (namedBy call) n) m;
+    }))
+    (λ n. own-run s m calls (after xs (own call)) ys (record { x = ready-after call xs (k .x); y = k .y; count = count-after s call xs ∙ k .count; span = stays s m call n xs ∙ k .span }))
+  where
+    go : (b : Bool) → names s (own call) ≡ b → (names s (own call) ≡ true → heard s (after xs (own call)) (sent calls) ≡ heard s (after ys (own call)) (sent (onlyOwn s calls)))
+        → (names s (own call) ≡ false → heard s (after xs (own call)) (sent calls) ≡ heard s ys (sent (onlyOwn s calls)))
+        → cond b (said xs (own call) ∷ heard s (after xs (own call)) (sent calls)) (heard s (after xs (own call)) (sent calls))
+        ≡ heard s ys (sent (cond b (call ∷ onlyOwn s calls) (onlyOwn s calls)))
+    go true n p q =
+        ap (λ (r : Reply). r ∷ heard s (after xs (own call)) (sent calls)) (told-ready s xs ys (k .x) (k .y) (k .count) (λ h. k .span) call n)
+        ∙ ap (λ (rs : List Reply). said ys (own call) ∷ rs) (p n)
+        ∙ sym (ap (λ (o : Bool). cond o (said ys (own call) ∷ heard s (after ys (own call)) (sent (onlyOwn s calls))) (heard s (after ys (own call)) (sent (onlyOwn s calls)))) n)
+    go false n p q = q n
+
+-- a shelf just cleared is ready, and its spans are zeros
+record Fresh (s : ℕ) (counts shelf : List ℕ) : Type 0 where
+  ready : Ready shelf
+  count : countIn (rowIn shelf) s ≡ countIn (rowIn counts) s
+  span : spanIn s shelf ≡ replicate (slotWords * countIn (rowIn counts) s) 0
+
+fresh : (s : ℕ) → s ≤ 7 → (counts shelf : List ℕ) → ClearedWith counts shelf → Fresh s counts shelf
+fresh s m counts shelf from =
+    let row = rowIn counts in
+    let e = from .allowed in
+    let old = from .before in
+    let eight = right-eight counts e in
+    let front = cleared-row row eight e old (from .long) in
+    subst (Fresh s counts) (clear-right old (from .long) counts e .1 ∙ sym (from .is)) (record {
+      ready = record { long = cleared-length row eight e old (from .long); row = ap {B = Row} testRow front ∙ e };
+      count = ap (λ (r : List ℕ). countIn r s) front;
+      span = ap (λ (r : List ℕ). spanOf (rowed r) s (cleared row old)) front ∙ cleared-span row eight e old (from .long) s m;
+    })
+
+pub own-decide : (society : ℕ) → society ≤ 7 → (counts others xs ys : List ℕ) → ClearedWith counts xs → ClearedWith others ys → countIn (rowIn counts) society ≡ countIn (rowIn others) society
+    → (calls more : List Own) → onlyOwn society calls ≡ onlyOwn society more → heard society xs (sent calls) ≡ heard society ys (sent more)
+own-decide s m counts others xs ys cx cy ec calls more e =
+    let fx = fresh s m counts xs cx in
+    let fy = fresh s m others ys cy in
+    own-run s m calls xs ys (record {
+      x = fx .ready;
+      y = fy .ready;
+      count = fx .count ∙ ec ∙ sym (fy .count);
+      span = fx .span ∙ ap (λ (c : ℕ). replicate (slotWords * c) 0) ec ∙ sym (fy .span);
+    })
+    ∙ ap (λ (own-calls : List Own). heard s ys (sent own-calls)) e
+    ∙ sym (own-run s m more ys ys (record { x = fy .ready; y = fy .ready; count = refl; span = refl }))

@@ -21,9 +21,24 @@ use Rattle.slots.specs.Slots.{lowest, hasJob, atSlot, droppedSlot, forgotIn}
 use Rattle.checked.specs.Answers.{Reply, refusal, done, accepted, answerOf}
 use Rattle.shelf.specs.Shelf.{forgetReply, Layout, sizeOf, slotFrom, spanOf, onPart, onSociety, fromSociety, keptOn, keptShelf, keepReply, fetchFrom, fetchReply, forgotShelf, forgotReply}
 use Rattle.shelf.specs.Fetched.{keptVerdict, handed, sameCounts, fetchTable, keptCells, keptLinks, keptValues, keptMultipliers, fetchAt, fetchIn, onJob}
+<<<<<<< ours
 use Rattle.checked.specs.Checked.{Checked, checkedOf}
 use Rattle.shelf.specs.Calls.{Call, keep, fetch, forget, clear, wholeAfter, wholeSaid, after, said}
 use Rattle.shelf.proofs.Lengths.{on-whole, from-whole, on-other, from-other}
+||||||| base
+use Rattle.shelf.specs.Checked.{Checked, checkedOf, accepted, answerOf}
+use Rattle.shelf.specs.Shelf.{Layout, sizeOf, slotFrom, spanOf, onPart, onSociety, fromSociety, keptOn, keptShelf, keepReply, fetchFrom, fetchReply, forgotShelf, forgotReply}
+use Rattle.shelf.specs.Calls.{Call, keep, fetch, forget, clear, wholeAfter, wholeSaid, after, said}
+use Rattle.shelf.proofs.Lengths.{on-whole, from-whole, on-other, from-other}
+=======
+use Rattle.shelf.specs.Checked.{Checked, checkedOf, accepted, answerOf}
+use Rattle.shelf.specs.Shelf.{Layout, sizeOf, slotFrom, spanOf, onPart, onSociety, fromSociety, keptOn, keptShelf, keepReply, fetchFrom, fetchReply, forgotShelf, forgotReply, shelfWords, rowIn, layoutIn, cleared}
+use Rattle.shelf.specs.Calls.{Own, Call, keep, fetch, forget, own, clear, laidAfter, laidSaid, wholeAfter, wholeSaid, after, said}
+use Rattle.shelf.specs.declared.Row.{Row}
+use Rattle.shelf.specs.declared.Row.the-variants.{Right, Wrong}
+use Rattle.shelf.specs.Counts.{testRow, onRow}
+use Rattle.shelf.proofs.Lengths.{on-whole, from-whole, on-other, from-other, said-wrong, after-wrong, clear-wrong}
+>>>>>>> theirs
 use Rattle.claims.specs.ShelfPromises.{Refused, GivesNothing}
 
 -- ---- a span's calls
@@ -107,28 +122,46 @@ module _ (l : Layout) (xs : List ℕ) where
       go (Accepted F G) m = absurd (m refl)
       go (Refuses number place) m = (refl, (refl, refl, refl))
 
-  whole-nothing : (call : Call) → Refused (wholeSaid l xs call) → (wholeAfter l xs call ≡ xs) × GivesNothing (wholeSaid l xs call)
+  laid-nothing : (call : Own) → Refused (laidSaid l xs call) → (laidAfter l xs call ≡ xs) × GivesNothing (laidSaid l xs call)
   unfolding fetchReply forgotShelf forgotReply
-  whole-nothing (keep job proposal) n = kept-nothing (checkedOf job proposal) n
-  whole-nothing (fetch job room) n =
+  laid-nothing (keep job proposal) n = kept-nothing (checkedOf job proposal) n
+  laid-nothing (fetch job room) n =
       let j = jobOf (readJob job .words) in
       (refl, unread-nothing (readJob job .outcome) (fetchFrom l j room xs) (fetch-nothing (l .words) (l .count (j .society)) j room (spanOf l (j .society) xs)) n)
-  whole-nothing (forget s job) n = (
+  laid-nothing (forget s job) n = (
     on-nothing s (forgotIn (l .words) (l .count s) job) (forgetReply (l .words) (l .count s) job) (forget-nothing (l .words) (l .count s) job) n,
     from-nothing s (forgetReply (l .words) (l .count s) job) (λ x m. forget-empty (l .words) (l .count s) job x) n,
   )
-  whole-nothing clear n = absurd (n refl)
 
-  -- on any words
-  pub refused-of : (call : Call) → Refused (said l xs call) → (after l xs call ≡ xs) × GivesNothing (said l xs call)
-  refused-of call n = go (eqb (length xs) (l .total)) refl
-    where
-      go : (b : Bool) → eqb (length xs) (l .total) ≡ b → (after l xs call ≡ xs) × GivesNothing (said l xs call)
-      go true e =
-          let h = eqb-true (length xs) (l .total) e in
-          let r = from-whole l xs h (λ s. wholeSaid l s call) in
-          let k = whole-nothing call (subst Refused (sym r) n) in
-          (sym (on-whole l xs h (λ s. wholeAfter l s call)) ∙ k .0, subst GivesNothing r (k .1))
-      go false e =
-          let h = eqb-false (length xs) (l .total) e in
-          (sym (on-other l xs h (λ s. wholeAfter l s call)), subst GivesNothing (from-other l xs h (λ s. wholeSaid l s call)) (refl, refl, refl))
+-- ---- by the test of a row
+row-nothing : (o : Row) (r : Reply) (xs ys : List ℕ) → (Refused r → (ys ≡ xs) × GivesNothing r) → Refused (onRow o r (λ place. refusal 22 place))
+    → (onRow o ys (λ place. xs) ≡ xs) × GivesNothing (onRow o r (λ place. refusal 22 place))
+row-nothing Right r xs ys k n = k n
+row-nothing (Wrong place) r xs ys k n = (refl, (refl, refl, refl))
+
+whole-nothing : (xs : List ℕ) (call : Call) → Refused (wholeSaid xs call) → (wholeAfter xs call ≡ xs) × GivesNothing (wholeSaid xs call)
+whole-nothing xs (own call) n = row-nothing (testRow (rowIn xs)) (laidSaid (layoutIn xs) xs call) xs (laidAfter (layoutIn xs) xs call) (laid-nothing (layoutIn xs) xs call) n
+whole-nothing xs (clear counts) n = row-nothing (testRow (rowIn counts)) done xs (cleared (rowIn counts) xs) (λ m. absurd (m refl)) n
+
+-- ---- on any words
+pub refused-of : (xs : List ℕ) (call : Call) → Refused (said xs call) → (after xs call ≡ xs) × GivesNothing (said xs call)
+refused-of xs call n = go (eqb (length xs) shelfWords) refl
+  where
+    go : (b : Bool) → eqb (length xs) shelfWords ≡ b → (after xs call ≡ xs) × GivesNothing (said xs call)
+    go true e =
+        let h = eqb-true (length xs) shelfWords e in
+        let r = from-whole xs h (λ s. wholeSaid s call) in
+        let k = whole-nothing xs call (subst Refused (sym r) n) in
+        (sym (on-whole xs h (λ s. wholeAfter s call)) ∙ k .0, subst GivesNothing r (k .1))
+    go false e =
+        let h = eqb-false (length xs) shelfWords e in
+        (sym (on-other xs h (λ s. wholeAfter s call)), subst GivesNothing (from-other xs h (λ s. wholeSaid s call)) (refl, refl, refl))
+
+-- a row that is wrong
+pub wrong-refused : (shelf : List ℕ) → length shelf ≡ shelfWords → (place : ℕ)
+    → (testRow (rowIn shelf) ≡ Wrong place → (call : Own) → (said shelf (own call) ≡ refusal 22 place) × (after shelf (own call) ≡ shelf))
+    × ((counts : List ℕ) → testRow (rowIn counts) ≡ Wrong place → (said shelf (clear counts) ≡ refusal 22 place) × (after shelf (clear counts) ≡ shelf))
+wrong-refused shelf len place = (
+  λ e call. (sym (said-wrong shelf len place e call), sym (after-wrong shelf len place e call)),
+  λ counts e. (sym (clear-wrong shelf len counts place e .0), sym (clear-wrong shelf len counts place e .1)),
+)

@@ -20,9 +20,20 @@ use Rattle.measure.specs.declared.check.Verdict.the-variants.{Accepted, Refused
 use Rattle.factor.specs.declared.Ending.{Ending}
 use Rattle.factor.specs.declared.Ending.the-variants.{Whole, Thin}
 use Rattle.house.specs.Proposal.{wordsOf, onEnding, solvedOf, proposedOf, onJobRead, proposeOf}
+<<<<<<< ours
 use Rattle.checked.specs.declared.Answer.{Answer}
 use Rattle.checked.specs.Answers.{overwritten, answerOf}
 use Rattle.shelf.specs.Shelf.{base}
+||||||| base
+use Rattle.shelf.specs.declared.Answer.{Answer}
+use Rattle.shelf.specs.Slots.{overwritten}
+use Rattle.shelf.specs.Checked.{answerOf}
+use Rattle.shelf.specs.Shelf.{base}
+=======
+use Rattle.shelf.specs.declared.Answer.{Answer}
+use Rattle.shelf.specs.Slots.{overwritten}
+use Rattle.shelf.specs.Checked.{answerOf}
+>>>>>>> theirs
 use Rattle.shelf.specs.Calls.{Call, after, said}
 use Rattle.bench.specs.Calls.{outcomeOf}
 use Rattle.claims.proofs.Refusals.{refused-of}
@@ -98,10 +109,10 @@ propose-kept room job before =
 
 -- ---- the shelf's calls
 
-pub shelf-kept : (call : Call) (shelf : List ℕ) → Kept (said base shelf call .answer) shelf (after base shelf call)
-shelf-kept call shelf n = let k = refused-of base shelf call n in (k .0, k .1 .1, k .1 .2)
+pub shelf-kept : (call : Call) (shelf : List ℕ) → Kept (said shelf call .answer) shelf (after shelf call)
+shelf-kept call shelf n = let k = refused-of shelf call n in (k .0, k .1 .1, k .1 .2)
 
-pub fetch-kept : (call : Call) (shelf out : List ℕ) → Kept (said base shelf call .answer) out (overwritten out (said base shelf call .values))
+pub fetch-kept : (call : Call) (shelf out : List ℕ) → Kept (said shelf call .answer) out (overwritten out (said shelf call .values))
 fetch-kept call shelf out n =
-    let k = refused-of base shelf call n in
+    let k = refused-of shelf call n in
     (ap (overwritten out) (k .1 .0), k .1 .1, k .1 .2)

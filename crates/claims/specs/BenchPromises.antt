@@ -10,8 +10,14 @@ use lib.ListN.{length, drop, getD}
 use Rattle.numbers.specs.Choice.{if_then_else_}
 use Rattle.measure.specs.declared.check.Verdict.the-variants.{Accepted}
 use Rattle.measure.specs.Check.{checkOf}
+<<<<<<< ours
 use Rattle.shelf.specs.Shelf.{shelfWords}
 use Rattle.shelf.specs.Calls.{Call, keep, forget, clear}
+||||||| base
+use Rattle.shelf.specs.Calls.{Call, keep, forget, clear}
+=======
+use Rattle.shelf.specs.Calls.{Call, own, keep, forget, clear}
+>>>>>>> theirs
 use Rattle.bench.specs.Answers.{hasFour}
 use Rattle.bench.specs.Calls.{CheckSays, ProposeSays, ReadSays, WriteSays, ShelfSays, FetchSays}
 use Rattle.claims.specs.Read.{jobIn, valuesIn}
@@ -53,16 +59,22 @@ Among (other ∷ others) most number = (number ≡ other) ⊎ Among others most 
 abbrev pub NumberIn : (others : List ℕ) (most : ℕ) {A : Type 0} → Claim A → Type 0
 NumberIn others most {A} claim = (r : ℕ) (a : List ℕ) (x : List A) → claim r a x → Among others most (r % 32)
 
+<<<<<<< ours
 -- Each call gives the numbers that the table of document 01, with 20 of document 02 (W-205) and W-203's for a fetch, has for it, and no other: a fetch never gives 11.
+||||||| base
+-- Each call gives the numbers that document 01's table, and for a fetch W-203, has for it, and no other: a fetch never gives 11.
+=======
+-- Each call gives the numbers that document 01's table, W-203 and W-209 have for it, and no other: a fetch never gives 11.
+>>>>>>> theirs
 pub record Numbered : Type 0 where
   pub check : (job proposal answer : List ℕ) (r : ℕ) (a : List ℕ) → CheckSays job proposal answer r a → Among (13 ∷ []) 9 (r % 32)
   pub propose : (job out answer : List ℕ) → NumberIn (10 ∷ 13 ∷ 20 ∷ []) 5 (ProposeSays job out answer)
   pub read : (job : List ℕ) (words : List ℤ) (answer : List ℕ) → NumberIn (13 ∷ []) 5 (ReadSays job words answer)
   pub write : (words : List ℤ) (out answer : List ℕ) → NumberIn (13 ∷ []) 5 (WriteSays words out answer)
-  pub keep : (job proposal shelf answer : List ℕ) → NumberIn (13 ∷ []) 9 (ShelfSays (keep job proposal) shelf answer)
-  pub fetch : (shelf job out answer : List ℕ) → NumberIn (12 ∷ 13 ∷ []) 9 (FetchSays shelf job out answer)
-  pub forget : (society job : ℕ) (shelf answer : List ℕ) → NumberIn (11 ∷ 12 ∷ 13 ∷ []) 0 (ShelfSays (forget society job) shelf answer)
-  pub clear : (shelf answer : List ℕ) → NumberIn (13 ∷ []) 0 (ShelfSays clear shelf answer)
+  pub keep : (job proposal shelf answer : List ℕ) → NumberIn (13 ∷ 22 ∷ []) 9 (ShelfSays (own (keep job proposal)) shelf answer)
+  pub fetch : (shelf job out answer : List ℕ) → NumberIn (12 ∷ 13 ∷ 22 ∷ []) 9 (FetchSays shelf job out answer)
+  pub forget : (society job : ℕ) (shelf answer : List ℕ) → NumberIn (11 ∷ 12 ∷ 13 ∷ 22 ∷ []) 0 (ShelfSays (own (forget society job)) shelf answer)
+  pub clear : (counts shelf answer : List ℕ) → NumberIn (13 ∷ 22 ∷ []) 0 (ShelfSays (clear counts) shelf answer)
 
 -- ---- refusals
 
@@ -113,6 +125,7 @@ pub record ToldFetched (job answered left : List ℕ) : Type 0 where
 
 -- So it is wherever check, keep or fetch returns the number 0, whatever words are on the shelf.
 pub record AcceptedTold : Type 0 where
+<<<<<<< ours
   pub check : (job proposal answer : List ℕ) (r : ℕ) (a : List ℕ) → CheckSays job proposal answer r a → r % 32 ≡ 0 → ToldBest job proposal 0 a
   pub keep : (job proposal shelf answer : List ℕ) (r : ℕ) (a x : List ℕ) → ShelfSays (keep job proposal) shelf answer r a x → r % 32 ≡ 0 → ToldBest job proposal 0 a
   pub fetch : (shelf job out answer : List ℕ) (r : ℕ) (a x : List ℕ) → FetchSays shelf job out answer r a x → r % 32 ≡ 0 → ToldFetched job a x
@@ -132,3 +145,10 @@ NoNeighbourSeen =
     (society : ℕ) (mades : List Made) (shelf : List ℕ) (seens fewer : List Seen)
     → MakesAll mades shelf seens → MakesAll (withoutOthers society mades) shelf fewer
     → ownSeen society mades seens ≡ ownSeen society (withoutOthers society mades) fewer
+||||||| base
+  pub check : (job proposal answer : List ℕ) (r : ℕ) (a : List ℕ) → CheckSays job proposal answer r a → r % 32 ≡ 0 → ToldBest job proposal a
+  pub keep : (job proposal shelf answer : List ℕ) (r : ℕ) (a x : List ℕ) → ShelfSays (keep job proposal) shelf answer r a x → r % 32 ≡ 0 → ToldBest job proposal a
+=======
+  pub check : (job proposal answer : List ℕ) (r : ℕ) (a : List ℕ) → CheckSays job proposal answer r a → r % 32 ≡ 0 → ToldBest job proposal a
+  pub keep : (job proposal shelf answer : List ℕ) (r : ℕ) (a x : List ℕ) → ShelfSays (own (keep job proposal)) shelf answer r a x → r % 32 ≡ 0 → ToldBest job proposal a
+>>>>>>> theirs

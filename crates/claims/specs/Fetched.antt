@@ -8,8 +8,16 @@ use lib.IntN.{pos}
 use lib.ListN.{length, getD}
 use Rattle.measure.specs.declared.check.Verdict.the-variants.{Accepted}
 use Rattle.measure.specs.Check.{checkOf}
+<<<<<<< ours
 use Rattle.checked.specs.Answers.{Reply}
 use Rattle.shelf.specs.Calls.{Call, keep}
+||||||| base
+use Rattle.shelf.specs.Slots.{Reply}
+use Rattle.shelf.specs.Calls.{Call, keep}
+=======
+use Rattle.shelf.specs.Slots.{Reply}
+use Rattle.shelf.specs.Calls.{Call, own, keep}
+>>>>>>> theirs
 use Rattle.claims.specs.Read.{jobIn, valuesIn}
 use Rattle.claims.specs.Meets.{NoneBelow}
 
@@ -24,7 +32,7 @@ Sent call (other ∷ calls) = (call ≡ other) ⊎ Sent call calls
 pub record IsAccepted (calls : List Call) (job : List ℕ) (r : Reply) : Type 0 where
   pub kept-under : List ℕ
   pub proposal : List ℕ
-  pub sent : Sent (keep kept-under proposal) calls
+  pub sent : Sent (own (keep kept-under proposal)) calls
   pub its-society : jobIn kept-under .society ≡ jobIn job .society
   pub its-number : jobIn kept-under .number ≡ jobIn job .number
   pub accepted : checkOf job proposal ≡ Accepted (pos (r .answer .loss)) (pos (r .answer .gap))

@@ -1,5 +1,5 @@
--- "From a cleared shelf, any sequence of calls answers as eight separate lists of at most four tables would" (document 01, "The shelf"): those lists.
--- A table goes where its job is, else to the end; where a list is full its oldest table is dropped.
+-- "From a cleared shelf, any sequence of calls answers as eight separate lists of at most four tables would" (document 01, "The shelf"), where W-209 has
+-- "that society's own count" for "four": those lists. A table goes where its job is, else to the end; where a list is full its oldest table is dropped.
 use Prim.Native.Nat.{ℕ}
 use mathlib.Core.Bool.{Bool, false, cond, _||_}
 use mathlib.Core.List.{List, [], _∷_, _++_}
@@ -10,9 +10,20 @@ use Rattle.jobs.specs.Words.{jobOf}
 use Rattle.jobs.specs.Packs.{readJob}
 use Rattle.checked.specs.Answers.{Reply, refusal, done, accepted, answerOf}
 use Rattle.shelf.specs.Fetched.{fetchTable, onJob}
+<<<<<<< ours
 use Rattle.checked.specs.Checked.{Checked, checkedOf}
 use Rattle.shelf.specs.Shelf.{keepReply}
 use Rattle.shelf.specs.Calls.{Call, keep, fetch, forget, clear}
+||||||| base
+use Rattle.shelf.specs.Checked.{Checked, checkedOf, accepted, answerOf}
+use Rattle.shelf.specs.Shelf.{keepReply}
+use Rattle.shelf.specs.Calls.{Call, keep, fetch, forget, clear}
+=======
+use Rattle.shelf.specs.Checked.{Checked, checkedOf, accepted, answerOf}
+use Rattle.shelf.specs.Counts.{countIn, testRow, onRow}
+use Rattle.shelf.specs.Shelf.{rowIn, keepReply}
+use Rattle.shelf.specs.Calls.{Own, Call, keep, fetch, forget, own, clear}
+>>>>>>> theirs
 
 pub record Table : Type 0 where
   pub job : ℕ
@@ -83,24 +94,36 @@ nothing society = []
 abbrev pub keptLists : (count : ℕ → ℕ) → Checked → Lists → Lists
 keptLists count o lists = cond (accepted (o .verdict)) (onList (o .society) (kept (count (o .society)) (tableFrom o)) lists) lists
 
--- the lists after a call, and what they say to it
-abbrev pub listsAfter : (count : ℕ → ℕ) → Lists → Call → Lists
+-- the lists after a society's call, and what they say to it
+abbrev pub listsAfter : (count : ℕ → ℕ) → Lists → Own → Lists
 listsAfter count lists (keep job proposal) = keptLists count (checkedOf job proposal) lists
 listsAfter count lists (fetch job room) = lists
 listsAfter count lists (forget society job) = onList society (removed job) lists
-listsAfter count lists clear = nothing
 
-abbrev pub listsSay : Lists → Call → Reply
+abbrev pub listsSay : Lists → Own → Reply
 listsSay lists (keep job proposal) = keepReply (checkedOf job proposal)
 listsSay lists (fetch job room) = onJob (readJob job .outcome) (fetched (jobOf (readJob job .words)) room (lists (jobOf (readJob job .words) .society)))
 listsSay lists (forget society job) = fromList society (forgotten job) lists
-listsSay lists clear = done
+
+-- ---- eight lists, each of at most as many tables as its society's count in a row
+pub record Kept : Type 0 where
+  pub row : List ℕ
+  pub lists : Lists
+
+-- after a clearing with those counts
+abbrev pub emptied : (counts : List ℕ) → Kept
+emptied counts = record { row = rowIn counts; lists = nothing }
+
+-- after a call, and what is said to it; "22 counts not allowed, at clearing"
+abbrev pub keptAfter : Kept → Call → Kept
+keptAfter k (own call) = record { row = k .row; lists = listsAfter (countIn (k .row)) (k .lists) call }
+keptAfter k (clear counts) = onRow (testRow (rowIn counts)) (emptied counts) (λ place. k)
+
+abbrev pub keptSay : Kept → Call → Reply
+keptSay k (own call) = listsSay (k .lists) call
+keptSay k (clear counts) = onRow (testRow (rowIn counts)) done (λ place. refusal 22 place)
 
 -- what they say to each call of a sequence
-abbrev pub listsRun : (count : ℕ → ℕ) → Lists → List Call → List Reply
-listsRun count lists [] = []
-listsRun count lists (call ∷ calls) = listsSay lists call ∷ listsRun count (listsAfter count lists call) calls
-
--- document 01: at most four
-abbrev pub four : ℕ → ℕ
-four society = 4
+abbrev pub listsRun : Kept → List Call → List Reply
+listsRun k [] = []
+listsRun k (call ∷ calls) = keptSay k call ∷ listsRun (keptAfter k call) calls

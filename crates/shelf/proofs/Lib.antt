@@ -2,6 +2,7 @@
 pub mod Picked
 pub mod Parts
 pub mod Spans
+pub mod Rows
 pub mod Society
 pub mod Lengths
 pub mod Judged

@@ -14,10 +14,10 @@ use Rattle.measure.specs.declared.check.Verdict.{Verdict}
 use Rattle.measure.specs.declared.check.Verdict.the-variants.{Accepted, Refused}
 use Rattle.measure.specs.Check.{proposalWords, checkOf}
 use Rattle.checked.specs.declared.Answer.{Answer}
-use Rattle.slots.specs.Slots.{slotOf, slotWords}
+use Rattle.slots.specs.Slots.{slotOf}
 use Rattle.checked.specs.Checked.{takenFrom, checkedOf, valuesOf, multipliersOf}
 use Rattle.checked.specs.Answers.{accepted, answerOf}
-use Rattle.shelf.specs.Shelf.{base, keptOn, keptShelf, keepReply}
+use Rattle.shelf.specs.Shelf.{Layout, keptOn, keptShelf, keepReply}
 use Rattle.checked.specs.Given.{Given}
 use Rattle.shelf.specs.Given.{Rated, keptFrom, tableKept}
 use Rattle.checked.proofs.Values.{length-map}
@@ -47,12 +47,12 @@ rated-given words rates g n links en el =
     }))
 
 -- a table kept for a society under a number that are a job's
-pub kept-by : (words : List ℤ) (loss gap s j : ℕ) → s ≡ countAt words 0 → j ≡ countAt words 1 → (vs us ys zs : List ℕ) → vs ≡ us → ys ≡ zs → (shelf left : List ℕ)
-    → left ≡ keptOn base s j (slotOf slotWords j loss gap vs ys) shelf → left ≡ keptFrom words loss gap us zs shelf
-kept-by words loss gap s j p q vs us ys zs r t shelf left e =
-    e ∙ ap (λ (x : ℕ). keptOn base x j (slotOf slotWords j loss gap vs ys) shelf) p
-    ∙ ap (λ (x : ℕ). keptOn base (countAt words 0) x (slotOf slotWords x loss gap vs ys) shelf) q
-    ∙ ap₂ (λ (x y : List ℕ). keptFrom words loss gap x y shelf) r t
+pub kept-by : (l : Layout) (words : List ℤ) (loss gap s j : ℕ) → s ≡ countAt words 0 → j ≡ countAt words 1 → (vs us ys zs : List ℕ) → vs ≡ us → ys ≡ zs → (shelf left : List ℕ)
+    → left ≡ keptOn l s j (slotOf (l .words) j loss gap vs ys) shelf → left ≡ keptFrom l words loss gap us zs shelf
+kept-by l words loss gap s j p q vs us ys zs r t shelf left e =
+    e ∙ ap (λ (x : ℕ). keptOn l x j (slotOf (l .words) j loss gap vs ys) shelf) p
+    ∙ ap (λ (x : ℕ). keptOn l (countAt words 0) x (slotOf (l .words) x loss gap vs ys) shelf) q
+    ∙ ap₂ (λ (x y : List ℕ). keptFrom l words loss gap x y shelf) r t
 
 -- ---- two packs that the check has accepted
 module _ (job proposal : List ℕ) (F G : ℤ) (e : checkOf job proposal ≡ Accepted F G)
@@ -61,31 +61,31 @@ module _ (job proposal : List ℕ) (F G : ℤ) (e : checkOf job proposal ≡ Acc
   abbrev ws : List ℤ
   ws = readJob job .words
 
-  pub kept-packs : (a : Answer) → a ≡ record { number = 0; place = 0; loss = natAbs F; gap = natAbs G } → (shelf ys : List ℕ)
-      → ys ≡ tableKept scratch (natAbs F) (natAbs G) rates shelf
-      → (a ≡ keepReply (checkedOf job proposal) .answer) × (ys ≡ keptShelf base (checkedOf job proposal) shelf)
+  pub kept-packs : (l : Layout) (a : Answer) → a ≡ record { number = 0; place = 0; loss = natAbs F; gap = natAbs G } → (shelf ys : List ℕ)
+      → ys ≡ tableKept l scratch (natAbs F) (natAbs G) rates shelf
+      → (a ≡ keepReply (checkedOf job proposal) .answer) × (ys ≡ keptShelf l (checkedOf job proposal) shelf)
   unfolding checkedOf keptShelf keepReply
-  kept-packs a p shelf ys k =
+  kept-packs l a p shelf ys k =
       let s = countAt ws 0 in
       let j = countAt ws 1 in
       let vs = valuesOf (jobOf ws) proposal in
       let ms = multipliersOf (jobOf ws) proposal in (
         p ∙ sym (ap {B = Answer} answerOf e),
         k
-            ∙ packs-name job proposal F G e scratch stored rates read (λ s j vs. keptOn base s j (slotOf slotWords j (natAbs F) (natAbs G) vs (takenFrom (cellsOf scratch) (linksOf scratch) rates)) shelf)
-            ∙ ap (λ (y : List ℕ). keptOn base s j (slotOf slotWords j (natAbs F) (natAbs G) vs y) shelf) (packs-multiply job proposal F G e scratch stored rates read)
-            ∙ sym (ap (λ (v : Verdict). cond (accepted v) (keptOn base s j (slotOf slotWords j (answerOf v .loss) (answerOf v .gap) vs ms) shelf) shelf) e),
+            ∙ packs-name job proposal F G e scratch stored rates read (λ s j vs. keptOn l s j (slotOf (l .words) j (natAbs F) (natAbs G) vs (takenFrom (cellsOf scratch) (linksOf scratch) rates)) shelf)
+            ∙ ap (λ (y : List ℕ). keptOn l s j (slotOf (l .words) j (natAbs F) (natAbs G) vs y) shelf) (packs-multiply job proposal F G e scratch stored rates read)
+            ∙ sym (ap (λ (v : Verdict). cond (accepted v) (keptOn l s j (slotOf (l .words) j (answerOf v .loss) (answerOf v .gap) vs ms) shelf) shelf) e),
       )
 
 -- ---- and two that it has refused
-pub refused-packs : (job proposal : List ℕ) (number place : ℕ) → checkOf job proposal ≡ Refused number place → (a : Answer) → a ≡ record { number = number; place = place; loss = 0; gap = 0 }
-    → (shelf : List ℕ) → (a ≡ keepReply (checkedOf job proposal) .answer) × (shelf ≡ keptShelf base (checkedOf job proposal) shelf)
+pub refused-packs : (l : Layout) (job proposal : List ℕ) (number place : ℕ) → checkOf job proposal ≡ Refused number place → (a : Answer) → a ≡ record { number = number; place = place; loss = 0; gap = 0 }
+    → (shelf : List ℕ) → (a ≡ keepReply (checkedOf job proposal) .answer) × (shelf ≡ keptShelf l (checkedOf job proposal) shelf)
 unfolding checkedOf keptShelf keepReply
-refused-packs job proposal number place e a p shelf =
+refused-packs l job proposal number place e a p shelf =
     let s = countAt (readJob job .words) 0 in
     let j = countAt (readJob job .words) 1 in
     let vs = valuesOf (jobOf (readJob job .words)) proposal in
     let ms = multipliersOf (jobOf (readJob job .words)) proposal in (
       p ∙ sym (ap {B = Answer} answerOf e),
-      sym (ap (λ (v : Verdict). cond (accepted v) (keptOn base s j (slotOf slotWords j (answerOf v .loss) (answerOf v .gap) vs ms) shelf) shelf) e),
+      sym (ap (λ (v : Verdict). cond (accepted v) (keptOn l s j (slotOf (l .words) j (answerOf v .loss) (answerOf v .gap) vs ms) shelf) shelf) e),
     )

@@ -1,14 +1,14 @@
 -- The eight spans of a shelf, for any layout in which they lie apart: what is done to one society's leaves every other's as it was.
-use mathlib.Core.Path.{_≡_, refl, sym, ap, _∙_}
+use mathlib.Core.Path.{_≡_, refl, ap, _∙_}
 use mathlib.Core.Bool.{Bool, true, false, cond}
 use mathlib.Core.List.{List}
-use Prim.Native.Nat.{ℕ, _+_, _-_, _<_, _≤_}
+use Prim.Native.Nat.{ℕ, _+_, _<_, _≤_}
 use native.Mathlib.Omega.{arith}
 use lib.Dec.{leb, ltb}
-use lib.ListN.{length, take, drop, replicate, length-drop, length-replicate, replicate-append-replicate}
-use lib.Seq.{length-take-le, take-at, drop-at}
+use lib.ListN.{length, drop, length-drop}
+use lib.Seq.{length-take-le}
 use borrow.Author.Tests.{le-leb, leb-true, ltb-true, ltb-false}
-use Rattle.shelf.specs.Shelf.{Layout, sizeOf, base, spanOf, onPart, onSociety, fromSociety, cleared}
+use Rattle.shelf.specs.Shelf.{Layout, sizeOf, spanOf, onPart, onSociety, fromSociety}
 use Rattle.slots.specs.Slots.{slotWords}
 use Rattle.checked.specs.Answers.{Reply, refusal}
 use Rattle.shelf.proofs.Parts.{on-length, on-own, on-before, on-after}
@@ -19,9 +19,6 @@ pub record Lawful (l : Layout) : Type 0 where
   pub some : (s : ℕ) → s ≤ 7 → 0 < l .count s
   pub within : (s : ℕ) → s ≤ 7 → l .start s + sizeOf l s ≤ l .total
   pub apart : (s t : ℕ) → s < t → t ≤ 7 → l .start s + sizeOf l s ≤ l .start t
-
-pub base-lawful : Lawful base
-base-lawful = record { wide = omega arith; some = λ s h. omega arith; within = λ s h. omega arith; apart = λ s t h k. omega arith }
 
 module _ (l : Layout) (ok : Lawful l) where
   pub span-length : (s : ℕ) (xs : List ℕ) → length xs ≡ l .total → s ≤ 7 → length (spanOf l s xs) ≡ sizeOf l s
@@ -67,25 +64,3 @@ from-same l s f xs ys a = go (leb s 7) refl
     go : (b : Bool) → leb s 7 ≡ b → cond b (f (spanOf l s xs)) (refusal 11 0) ≡ cond b (f (spanOf l s ys)) (refusal 11 0)
     go true e = ap {B = Reply} f (a (leb-true s 7 e))
     go false e = refl
-
--- a cleared shelf's spans are zeros
-take-zeros : (k n : ℕ) → k ≤ n → take k (replicate {A = ℕ} n 0) ≡ replicate k 0
-take-zeros k n h =
-    let e : k + (n - k) ≡ n = omega arith in
-    ap (λ (m : ℕ). take k (replicate {A = ℕ} m 0)) (sym e) ∙ ap (take k) (sym (replicate-append-replicate {A = ℕ} k (n - k) 0)) ∙ take-at (replicate k 0) (replicate (n - k) 0) k (length-replicate {A = ℕ} k 0)
-
-drop-zeros : (k n : ℕ) → k ≤ n → drop k (replicate {A = ℕ} n 0) ≡ replicate (n - k) 0
-drop-zeros k n h =
-    let e : k + (n - k) ≡ n = omega arith in
-    ap (λ (m : ℕ). drop k (replicate {A = ℕ} m 0)) (sym e) ∙ ap (drop k) (sym (replicate-append-replicate {A = ℕ} k (n - k) 0)) ∙ drop-at (replicate k 0) (replicate (n - k) 0) k (length-replicate {A = ℕ} k 0)
-
-module _ (l : Layout) (ok : Lawful l) where
-  pub cleared-length : length (cleared l) ≡ l .total
-  unfolding cleared
-  cleared-length = length-replicate {A = ℕ} (l .total) 0
-
-  pub cleared-span : (s : ℕ) → s ≤ 7 → spanOf l s (cleared l) ≡ replicate (sizeOf l s) 0
-  unfolding cleared
-  cleared-span s h =
-      let w = ok .within s h in
-      ap (take (sizeOf l s)) (drop-zeros (l .start s) (l .total) (omega arith)) ∙ take-zeros (sizeOf l s) (l .total - l .start s) (omega arith)

@@ -7,40 +7,52 @@ use mathlib.Core.List.{List, [], _∷_}
 use lib.Dec.{eqb}
 use lib.IntN.{ℤ, natAbs}
 use Rattle.jobs.specs.Packs.{readJob}
-use Rattle.checked.specs.Answers.{Reply, done}
+use Rattle.checked.specs.Answers.{Reply, refusal, done}
 use Rattle.checked.specs.Checked.{checkedOf}
-use Rattle.shelf.specs.Shelf.{Layout, onWhole, fromWhole, keptShelf, keepReply, fetchReply, forgotShelf, forgotReply, cleared}
+use Rattle.counts.specs.Counts.{testRow, onRow, rowIn, cleared}
+use Rattle.shelf.specs.Shelf.{Layout, layoutIn, onWhole, fromWhole, keptShelf, keepReply, fetchReply, forgotShelf, forgotReply}
+
+-- a society's own call, and a call: "clearing is the house's own call and belongs to no society"
+pub data Own : Type 0 where
+  keep : (job proposal : List ℕ) → Own
+  fetch : (job : List ℕ) (room : ℕ) → Own
+  forget : (society job : ℕ) → Own
 
 pub data Call : Type 0 where
-  keep : (job proposal : List ℕ) → Call
-  fetch : (job : List ℕ) (room : ℕ) → Call
-  forget : (society job : ℕ) → Call
-  clear : Call
+  own : Own → Call
+  clear : (counts : List ℕ) → Call
 
--- ---- a call on a shelf that has all its words
-abbrev pub wholeAfter : Layout → (shelf : List ℕ) → Call → List ℕ
-wholeAfter l shelf (keep job proposal) = keptShelf l (checkedOf job proposal) shelf
-wholeAfter l shelf (fetch job room) = shelf
-wholeAfter l shelf (forget society job) = forgotShelf l society job shelf
-wholeAfter l shelf clear = cleared l
+-- ---- a society's call on a shelf that has all its words, by its layout
+abbrev pub laidAfter : Layout → (shelf : List ℕ) → Own → List ℕ
+laidAfter l shelf (keep job proposal) = keptShelf l (checkedOf job proposal) shelf
+laidAfter l shelf (fetch job room) = shelf
+laidAfter l shelf (forget society job) = forgotShelf l society job shelf
 
-abbrev pub wholeSaid : Layout → (shelf : List ℕ) → Call → Reply
-wholeSaid l shelf (keep job proposal) = keepReply (checkedOf job proposal)
-wholeSaid l shelf (fetch job room) = fetchReply l job room shelf
-wholeSaid l shelf (forget society job) = forgotReply l society job shelf
-wholeSaid l shelf clear = done
+abbrev pub laidSaid : Layout → (shelf : List ℕ) → Own → Reply
+laidSaid l shelf (keep job proposal) = keepReply (checkedOf job proposal)
+laidSaid l shelf (fetch job room) = fetchReply l job room shelf
+laidSaid l shelf (forget society job) = forgotReply l society job shelf
+
+-- ---- a call on a shelf that has all its words: "22 counts not allowed, at clearing, and at every other call after the length test"
+abbrev pub wholeAfter : (shelf : List ℕ) → Call → List ℕ
+wholeAfter shelf (own call) = onRow (testRow (rowIn shelf)) (laidAfter (layoutIn shelf) shelf call) (λ place. shelf)
+wholeAfter shelf (clear counts) = onRow (testRow (rowIn counts)) (cleared (rowIn counts) shelf) (λ place. shelf)
+
+abbrev pub wholeSaid : (shelf : List ℕ) → Call → Reply
+wholeSaid shelf (own call) = onRow (testRow (rowIn shelf)) (laidSaid (layoutIn shelf) shelf call) (λ place. refusal 22 place)
+wholeSaid shelf (clear counts) = onRow (testRow (rowIn counts)) done (λ place. refusal 22 place)
 
 -- ---- a call on any words: the shelf after it, and what it says
-abbrev pub after : Layout → (shelf : List ℕ) → Call → List ℕ
-after l shelf call = onWhole l (λ s. wholeAfter l s call) shelf
+abbrev pub after : (shelf : List ℕ) → Call → List ℕ
+after shelf call = onWhole (λ s. wholeAfter s call) shelf
 
-abbrev pub said : Layout → (shelf : List ℕ) → Call → Reply
-said l shelf call = fromWhole l (λ s. wholeSaid l s call) shelf
+abbrev pub said : (shelf : List ℕ) → Call → Reply
+said shelf call = fromWhole (λ s. wholeSaid s call) shelf
 
 -- what each call of a sequence says
-abbrev pub shelfRun : Layout → (shelf : List ℕ) → List Call → List Reply
-shelfRun l shelf [] = []
-shelfRun l shelf (call ∷ calls) = said l shelf call ∷ shelfRun l (after l shelf call) calls
+abbrev pub shelfRun : (shelf : List ℕ) → List Call → List Reply
+shelfRun shelf [] = []
+shelfRun shelf (call ∷ calls) = said shelf call ∷ shelfRun (after shelf call) calls
 
 -- ---- "A call's own society is the one that its pack or its number names"
 -- A pack names the society that it starts with, where that is read; clearing "belongs to no society".
@@ -48,11 +60,14 @@ abbrev pub firstOf : List ℤ → Option ℕ
 firstOf [] = none
 firstOf (word ∷ words) = some (natAbs word)
 
+abbrev pub namedBy : Own → Option ℕ
+namedBy (keep job proposal) = firstOf (readJob job .words)
+namedBy (fetch job room) = firstOf (readJob job .words)
+namedBy (forget society job) = some society
+
 abbrev pub named : Call → Option ℕ
-named (keep job proposal) = firstOf (readJob job .words)
-named (fetch job room) = firstOf (readJob job .words)
-named (forget society job) = some society
-named clear = none
+named (own call) = namedBy call
+named (clear counts) = none
 
 abbrev pub is : (society : ℕ) → Option ℕ → Bool
 is society none = false

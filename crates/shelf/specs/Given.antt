@@ -7,11 +7,11 @@ use lib.IntN.{ℤ}
 use lib.ListN.{length}
 use Rattle.jobs.specs.Words.{countAt, cellsOf, linksOf, jobOf}
 use Rattle.jobs.specs.Allowed.{Allowed, Laid}
-use Rattle.slots.specs.Slots.{slotWords, slotOf}
+use Rattle.slots.specs.Slots.{slotOf}
 use Rattle.checked.specs.Checked.{takenFrom}
 use Rattle.checked.specs.Given.{Wordlike}
 use Rattle.shelf.specs.Fetched.{upTo, mostValue, mostMultiplier}
-use Rattle.shelf.specs.Shelf.{base, keptOn}
+use Rattle.shelf.specs.Shelf.{Layout, keptOn}
 
 -- ---- a keep
 -- The numbers of a proposal: n values, and then so many multipliers.
@@ -22,13 +22,13 @@ pub record Rated (n links : ℕ) (rates : List ℤ) : Type 0 where
   pub multipliers : Wordlike n links rates
 
 -- The shelf after a table of that job was kept.
-abbrev pub keptFrom : (words : List ℤ) (loss gap : ℕ) (values multipliers shelf : List ℕ) → List ℕ
-keptFrom words loss gap values multipliers shelf =
-    keptOn base (countAt words 0) (countAt words 1) (slotOf slotWords (countAt words 1) loss gap values multipliers) shelf
+abbrev pub keptFrom : Layout → (words : List ℤ) (loss gap : ℕ) (values multipliers shelf : List ℕ) → List ℕ
+keptFrom l words loss gap values multipliers shelf =
+    keptOn l (countAt words 0) (countAt words 1) (slotOf (l .words) (countAt words 1) loss gap values multipliers) shelf
 
-abbrev pub tableKept : (words : List ℤ) (loss gap : ℕ) (rates : List ℤ) (shelf : List ℕ) → List ℕ
-tableKept words loss gap rates shelf =
-    keptFrom words loss gap (takenFrom 0 (cellsOf words) rates) (takenFrom (cellsOf words) (linksOf words) rates) shelf
+abbrev pub tableKept : Layout → (words : List ℤ) (loss gap : ℕ) (rates : List ℤ) (shelf : List ℕ) → List ℕ
+tableKept l words loss gap rates shelf =
+    keptFrom l words loss gap (takenFrom 0 (cellsOf words) rates) (takenFrom (cellsOf words) (linksOf words) rates) shelf
 
 -- ---- a fetch
 -- A job's words that were read, and kept numbers of as many cells and links.

@@ -1,12 +1,13 @@
--- The whole shelf (document 01, "The shelf", with W-203's slots): eight spans, and each call on the span of its own society.
+-- The whole shelf (document 01, "The shelf", with W-203's slots and W-209's row): eight spans, and each call on the span of its own society.
 use Prim.Native.Nat.{ℕ, _*_}
 use mathlib.Core.Bool.{cond}
 use mathlib.Core.List.{List, [], _++_}
 use lib.Dec.{eqb, leb}
-use lib.ListN.{length, take, drop, replicate}
+use lib.ListN.{length, take, drop}
 use Rattle.jobs.specs.Job.{Job}
 use Rattle.jobs.specs.Words.{jobOf}
 use Rattle.jobs.specs.Packs.{readJob}
+use Rattle.counts.specs.Counts.{shelfWords, countIn, rowIn, startIn}
 use Rattle.slots.specs.Slots.{slotWords, slotOf, hasJob, lowest, atSlot, keptIn, forgotIn}
 use Rattle.checked.specs.Answers.{Reply, refusal, done, accepted, answerOf}
 use Rattle.checked.specs.Checked.{Checked}
@@ -25,21 +26,25 @@ pub record Layout : Type 0 where
 abbrev pub sizeOf : Layout → (society : ℕ) → ℕ
 sizeOf l society = l .words * l .count society
 
--- "8 societies …, each 4 places"; W-203: "A place becomes 287 words …; the shelf is 9,184 words"
-abbrev pub base : Layout
-base = record { words = slotWords; count = λ society. 4; start = λ society. 1148 * society; total = 9184 }
+-- a shelf with that row of counts (W-209): "places follow in society order"
+abbrev pub rowed : (row : List ℕ) → Layout
+rowed row = record { words = slotWords; count = countIn row; start = startIn row; total = shelfWords }
 
-abbrev pub shelfWords : ℕ
-shelfWords = base .total
+-- by its own row
+abbrev pub layoutIn : List ℕ → Layout
+layoutIn shelf = rowed (rowIn shelf)
 
 -- ---- parts
 -- f done to the k words from a on, the others as they were
 abbrev pub onPart : (a k : ℕ) → (f : List ℕ → List ℕ) → List ℕ → List ℕ
 onPart a k f xs = take a xs ++ (f (take k (drop a xs)) ++ drop k (drop a xs))
 
--- a society's words
+-- a society's words, by a layout and by the shelf's own
 abbrev pub spanOf : Layout → (society : ℕ) → List ℕ → List ℕ
 spanOf l society shelf = take (sizeOf l society) (drop (l .start society) shelf)
+
+abbrev pub spanIn : (society : ℕ) → List ℕ → List ℕ
+spanIn society shelf = spanOf (layoutIn shelf) society shelf
 
 -- f done to the society's words; no society is above 7
 unfoldable pub onSociety : Layout → (society : ℕ) → (f : List ℕ → List ℕ) → List ℕ → List ℕ
@@ -50,13 +55,13 @@ unfoldable pub fromSociety : Layout → (society : ℕ) → (f : List ℕ → Re
 fromSociety l society f shelf = cond (leb society 7) (f (spanOf l society shelf)) (refusal 11 0)
 
 -- f done to a shelf that has all its words, and what f says of one; "13 names that number"
-unfoldable pub onWhole : Layout → (f : List ℕ → List ℕ) → List ℕ → List ℕ
-onWhole l f shelf = cond (eqb (length shelf) (l .total)) (f shelf) shelf
+unfoldable pub onWhole : (f : List ℕ → List ℕ) → List ℕ → List ℕ
+onWhole f shelf = cond (eqb (length shelf) shelfWords) (f shelf) shelf
 
-unfoldable pub fromWhole : Layout → (f : List ℕ → Reply) → List ℕ → Reply
-fromWhole l f shelf = cond (eqb (length shelf) (l .total)) (f shelf) (refusal 13 (l .total))
+unfoldable pub fromWhole : (f : List ℕ → Reply) → List ℕ → Reply
+fromWhole f shelf = cond (eqb (length shelf) shelfWords) (f shelf) (refusal 13 shelfWords)
 
--- ---- the calls, on a shelf that has all its words
+-- ---- the calls, by the layout of a shelf that has all its words
 -- the table of an accepted check as a slot
 abbrev pub slotFrom : Layout → Checked → List ℕ
 slotFrom l o = slotOf (l .words) (o .job) (answerOf (o .verdict) .loss) (answerOf (o .verdict) .gap) (o .values) (o .multipliers)
@@ -87,7 +92,3 @@ forgetReply w c job s = atSlot (lowest (hasJob job) w c s) (λ p. done) (refusal
 
 unfoldable pub forgotReply : Layout → (society job : ℕ) → List ℕ → Reply
 forgotReply l society job shelf = fromSociety l society (forgetReply (l .words) (l .count society) job) shelf
-
--- "Clearing sets every word to 0."
-unfoldable pub cleared : Layout → List ℕ
-cleared l = replicate (l .total) 0

@@ -5,7 +5,8 @@ ghost use Prim.Native.Nat.{_≤_};
 ghost use lib.IntN.{natAbs};
 ghost use lib.ListN.{length, drop};
 ghost use Rattle.checked.specs.Checked.{takenFrom, checkedOf};
-ghost use Rattle.shelf.specs.Shelf.{base, shelfWords, keptShelf, keepReply};
+ghost use Rattle.counts.specs.Counts.{Ready};
+ghost use Rattle.shelf.specs.Shelf.{layoutIn, keptShelf, keepReply};
 ghost use Rattle.checked.specs.Given.{JobWords, Wordlike, Given};
 ghost use Rattle.shelf.specs.Given.{Rated, keptFrom, tableKept};
 use crate::societies::keep_society;
@@ -43,8 +44,8 @@ fn keep_rates(
     loss: u64,
     gap: u64,
 )
-    requires { ⌜ (length (now shelf) ≡ shelfWords) × JobWords (now words) × Rated n links (now rates) ⌝ }
-    ensures { λ _. ⌜ now (shelf .exit) ≡ keptFrom (now (words .entry)) loss gap (takenFrom 0 n (now (rates .entry))) (takenFrom n links (now (rates .entry))) (now (shelf .entry)) ⌝ }
+    requires { ⌜ Ready (now shelf) × JobWords (now words) × Rated n links (now rates) ⌝ }
+    ensures { λ _. ⌜ now (shelf .exit) ≡ keptFrom (layoutIn (now (shelf .entry))) (now (words .entry)) loss gap (takenFrom 0 n (now (rates .entry))) (takenFrom n links (now (rates .entry))) (now (shelf .entry)) ⌝ }
 {
     let mut values = [0u32; 120];
     copy_rates(rates, 0, n, &mut values);
@@ -65,9 +66,9 @@ fn keep_rates(
 
 // Keep a table that the check has accepted with that loss and gap: the numbers of a proposal, for a job's words.
 fn keep_table(shelf: &mut [u32], words: &[i64], rates: &[i64], loss: i64, gap: i64) -> Answer
-    requires { ⌜ (length (now shelf) ≡ shelfWords) × Given (now words) (now rates) ⌝ }
+    requires { ⌜ Ready (now shelf) × Given (now words) (now rates) ⌝ }
     ensures answer { λ r. ⌜ r ≡ record { number = 0; place = 0; loss = natAbs loss; gap = natAbs gap } ⌝ }
-    ensures shelf { λ _. ⌜ now (shelf .exit) ≡ tableKept (now (words .entry)) (natAbs loss) (natAbs gap) (now (rates .entry)) (now (shelf .entry)) ⌝ }
+    ensures shelf { λ _. ⌜ now (shelf .exit) ≡ tableKept (layoutIn (now (shelf .entry))) (now (words .entry)) (natAbs loss) (natAbs gap) (now (rates .entry)) (now (shelf .entry)) ⌝ }
 {
     let f = size_of(loss);
     let g = size_of(gap);
@@ -85,9 +86,9 @@ fn keep_table(shelf: &mut [u32], words: &[i64], rates: &[i64], loss: i64, gap: i
 
 // Check the proposal, and keep its table where it is accepted.
 pub fn keep_checked(shelf: &mut [u32], job: &[u8], proposal: &[u8]) -> Answer
-    requires { ⌜ length (now shelf) ≡ shelfWords ⌝ }
+    requires { ⌜ Ready (now shelf) ⌝ }
     ensures answer { λ r. ⌜ r ≡ keepReply (checkedOf (now (job .entry)) (now (proposal .entry))) .answer ⌝ }
-    ensures shelf { λ _. ⌜ now (shelf .exit) ≡ keptShelf base (checkedOf (now (job .entry)) (now (proposal .entry))) (now (shelf .entry)) ⌝ }
+    ensures shelf { λ _. ⌜ now (shelf .exit) ≡ keptShelf (layoutIn (now (shelf .entry))) (checkedOf (now (job .entry)) (now (proposal .entry))) (now (shelf .entry)) ⌝ }
 {
     let mut words = [0i64; JOB_WORDS];
     let mut rates = [0i64; PROPOSAL_WORDS];

@@ -6,14 +6,14 @@ ghost use Rattle.jobs.specs.Words.{jobOf};
 ghost use Rattle.jobs.specs.Allowed.{Allowed, Laid};
 ghost use Rattle.slots.specs.Slots.{slotWords};
 ghost use Rattle.checked.specs.Answers.{overwritten};
+ghost use Rattle.counts.specs.Counts.{Ready};
 ghost use Rattle.shelf.specs.Fetched.{fetchAt, fetchIn};
-ghost use Rattle.shelf.specs.Shelf.{base, shelfWords, fetchFrom, fetchReply};
+ghost use Rattle.shelf.specs.Shelf.{layoutIn, fetchFrom, fetchReply};
 use crate::kept::fetch_kept;
-use crate::societies::SLOTS;
-use crate::societies::start_of;
 use checked::Answer;
 use checked::count_at;
 use checked::plain;
+use counts::span_of;
 use fields::Field;
 use jobs::job::JOB_WORDS;
 use jobs::words;
@@ -64,30 +64,31 @@ fn fetch_in(span: &[u32], count: usize, words: &[i64], out: &mut [u32]) -> Answe
 
 // The same, from the span of the society that the job names.
 fn fetch_society(shelf: &[u32], words: &[i64], out: &mut [u32]) -> Answer
-    requires { ⌜ (length (now shelf) ≡ shelfWords) × (Allowed (jobOf (now words)) × Laid (now words)) ⌝ }
-    ensures answer { λ r. ⌜ r ≡ fetchFrom base (jobOf (now (words .entry))) (length (now (out .entry))) (now (shelf .entry)) .answer ⌝ }
-    ensures output { λ _. ⌜ now (out .exit) ≡ overwritten (now (out .entry)) (fetchFrom base (jobOf (now (words .entry))) (length (now (out .entry))) (now (shelf .entry)) .values) ⌝ }
+    requires { ⌜ Ready (now shelf) × (Allowed (jobOf (now words)) × Laid (now words)) ⌝ }
+    ensures answer { λ r. ⌜ r ≡ fetchFrom (layoutIn (now (shelf .entry))) (jobOf (now (words .entry))) (length (now (out .entry))) (now (shelf .entry)) .answer ⌝ }
+    ensures output { λ _. ⌜ now (out .exit) ≡ overwritten (now (out .entry)) (fetchFrom (layoutIn (now (shelf .entry))) (jobOf (now (words .entry))) (length (now (out .entry))) (now (shelf .entry)) .values) ⌝ }
 {
     let society = count_at(words, 0);
-    let a = start_of(society as u32);
-    let e = a + SLOT_WORDS * SLOTS;
-    fetch_in(&shelf[a..e], SLOTS, words, out)
+    let own = span_of(shelf, society as usize);
+    let a = own.start;
+    let e = own.end;
+    fetch_in(&shelf[a..e], own.count, words, out)
 }
 
 // The same, for a job that stands in the first k words.
 fn fetch_part(shelf: &[u32], words: &[i64], k: usize, out: &mut [u32]) -> Answer
-    requires { ⌜ (length (now shelf) ≡ shelfWords) × (k ≤ length (now words)) × (Allowed (jobOf (take k (now words))) × Laid (take k (now words))) ⌝ }
-    ensures answer { λ r. ⌜ r ≡ fetchFrom base (jobOf (take k (now (words .entry)))) (length (now (out .entry))) (now (shelf .entry)) .answer ⌝ }
-    ensures output { λ _. ⌜ now (out .exit) ≡ overwritten (now (out .entry)) (fetchFrom base (jobOf (take k (now (words .entry)))) (length (now (out .entry))) (now (shelf .entry)) .values) ⌝ }
+    requires { ⌜ Ready (now shelf) × (k ≤ length (now words)) × (Allowed (jobOf (take k (now words))) × Laid (take k (now words))) ⌝ }
+    ensures answer { λ r. ⌜ r ≡ fetchFrom (layoutIn (now (shelf .entry))) (jobOf (take k (now (words .entry)))) (length (now (out .entry))) (now (shelf .entry)) .answer ⌝ }
+    ensures output { λ _. ⌜ now (out .exit) ≡ overwritten (now (out .entry)) (fetchFrom (layoutIn (now (shelf .entry))) (jobOf (take k (now (words .entry)))) (length (now (out .entry))) (now (shelf .entry)) .values) ⌝ }
 {
     fetch_society(shelf, &words[0..k], out)
 }
 
 // The table that is kept under a job pack's number, where it is accepted for that job.
 pub fn fetch_pack(shelf: &[u32], job: &[u8], out: &mut [u32]) -> Answer
-    requires { ⌜ length (now shelf) ≡ shelfWords ⌝ }
-    ensures answer { λ r. ⌜ r ≡ fetchReply base (now (job .entry)) (length (now (out .entry))) (now (shelf .entry)) .answer ⌝ }
-    ensures output { λ _. ⌜ now (out .exit) ≡ overwritten (now (out .entry)) (fetchReply base (now (job .entry)) (length (now (out .entry))) (now (shelf .entry)) .values) ⌝ }
+    requires { ⌜ Ready (now shelf) ⌝ }
+    ensures answer { λ r. ⌜ r ≡ fetchReply (layoutIn (now (shelf .entry))) (now (job .entry)) (length (now (out .entry))) (now (shelf .entry)) .answer ⌝ }
+    ensures output { λ _. ⌜ now (out .exit) ≡ overwritten (now (out .entry)) (fetchReply (layoutIn (now (shelf .entry))) (now (job .entry)) (length (now (out .entry))) (now (shelf .entry)) .values) ⌝ }
 {
     let mut words = [0i64; JOB_WORDS];
     let read = packs::reading::read(job, Field::Society, &mut words);

@@ -1,5 +1,4 @@
 -- Clearing is the shelf's own; the answer is given where there is room for it.
-use Rattle.shelf.specs.Shelf.{base}
 use Rattle.shelf.specs.Calls.{clear, after, said}
 use Rattle.bench.proofs.Endings.{without-room, with-room}
 use Rattle.bench.proofs.Shelves.{said-small}
@@ -10,8 +9,8 @@ use Rattle.bench.proofs.keeping.bench_clear.Tie as tie
 returns : tie.Need-returns
 returns c =
     let a = c .before .before .before .args in
-    let call = clear in
-    without-room (said base (a .shelf .now) call .answer) (a .answer .now) (a .shelf .now) (after base (a .shelf .now) call) (c .if1 .taken)
+    let call = clear (a .counts .now) in
+    without-room (said (a .shelf .now) call .answer) (a .answer .now) (a .shelf .now) (after (a .shelf .now) call) (c .if1 .taken)
 
 clear-requires : tie.Need-clear-requires
 clear-requires c κs = search needs
@@ -31,8 +30,8 @@ returns-2 c =
     let made = given .before .before .before .before in
     let test = made .before .before in
     let a = test .before .before .before .args in
-    let call = clear in
-    with-room (said base (a .shelf .now) call .answer) (a .answer .now) (a .shelf .now) (after base (a .shelf .now) call) (said-small (a .shelf .now) call) (test .if1 .left) (made .clear .result)
+    let call = clear (a .counts .now) in
+    with-room (said (a .shelf .now) call .answer) (a .answer .now) (a .shelf .now) (after (a .shelf .now) call) (said-small (a .shelf .now) call) (test .if1 .left) (made .clear .result)
     (made .clear .ensures .0) (given .give .ensures .0) (given .give .ensures .1) (made .clear .ensures .1)
 
 pub bench-clear-spec : {M : Type 1} → statement M

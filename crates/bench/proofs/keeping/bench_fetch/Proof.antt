@@ -1,8 +1,17 @@
 -- Fetching is the shelf's own; the answer is given where there is room for it.
 use lib.ListN.{length}
+<<<<<<< ours
 use Rattle.checked.specs.Answers.{overwritten}
 use Rattle.shelf.specs.Shelf.{base}
 use Rattle.shelf.specs.Calls.{fetch, said}
+||||||| base
+use Rattle.shelf.specs.Slots.{overwritten}
+use Rattle.shelf.specs.Shelf.{base}
+use Rattle.shelf.specs.Calls.{fetch, said}
+=======
+use Rattle.shelf.specs.Slots.{overwritten}
+use Rattle.shelf.specs.Calls.{own, fetch, said}
+>>>>>>> theirs
 use Rattle.bench.proofs.Endings.{without-room, with-room}
 use Rattle.bench.proofs.Shelves.{said-small}
 use borrow.Author.Needs.{needs}
@@ -12,8 +21,8 @@ use Rattle.bench.proofs.keeping.bench_fetch.Tie as tie
 returns : tie.Need-returns
 returns c =
     let a = c .before .before .before .before .before .args in
-    let call = fetch (a .job .now) (length (a .out .now)) in
-    without-room (said base (a .shelf .now) call .answer) (a .answer .now) (a .out .now) (overwritten (a .out .now) (said base (a .shelf .now) call .values)) (c .if1 .taken)
+    let call = own (fetch (a .job .now) (length (a .out .now))) in
+    without-room (said (a .shelf .now) call .answer) (a .answer .now) (a .out .now) (overwritten (a .out .now) (said (a .shelf .now) call .values)) (c .if1 .taken)
 
 fetch-requires : tie.Need-fetch-requires
 fetch-requires c κs = search needs
@@ -33,8 +42,8 @@ returns-2 c =
     let made = given .before .before .before .before in
     let test = made .before .before in
     let a = test .before .before .before .before .before .args in
-    let call = fetch (a .job .now) (length (a .out .now)) in
-    with-room (said base (a .shelf .now) call .answer) (a .answer .now) (a .out .now) (overwritten (a .out .now) (said base (a .shelf .now) call .values)) (said-small (a .shelf .now) call) (test .if1 .left) (made .fetch .result)
+    let call = own (fetch (a .job .now) (length (a .out .now))) in
+    with-room (said (a .shelf .now) call .answer) (a .answer .now) (a .out .now) (overwritten (a .out .now) (said (a .shelf .now) call .values)) (said-small (a .shelf .now) call) (test .if1 .left) (made .fetch .result)
     (made .fetch .ensures .0) (given .give .ensures .0) (given .give .ensures .1) (made .fetch .ensures .1)
 
 pub bench-fetch-spec : {M : Type 1} → statement M

@@ -1,6 +1,5 @@
 -- Keeping is the shelf's own; the answer is given where there is room for it.
-use Rattle.shelf.specs.Shelf.{base}
-use Rattle.shelf.specs.Calls.{keep, after, said}
+use Rattle.shelf.specs.Calls.{own, keep, after, said}
 use Rattle.bench.proofs.Endings.{without-room, with-room}
 use Rattle.bench.proofs.Shelves.{said-small}
 use borrow.Author.Needs.{needs}
@@ -10,8 +9,8 @@ use Rattle.bench.proofs.keeping.bench_keep.Tie as tie
 returns : tie.Need-returns
 returns c =
     let a = c .before .before .before .before .before .args in
-    let call = keep (a .job .now) (a .proposal .now) in
-    without-room (said base (a .shelf .now) call .answer) (a .answer .now) (a .shelf .now) (after base (a .shelf .now) call) (c .if1 .taken)
+    let call = own (keep (a .job .now) (a .proposal .now)) in
+    without-room (said (a .shelf .now) call .answer) (a .answer .now) (a .shelf .now) (after (a .shelf .now) call) (c .if1 .taken)
 
 keep-requires : tie.Need-keep-requires
 keep-requires c κs = search needs
@@ -31,8 +30,8 @@ returns-2 c =
     let made = given .before .before .before .before in
     let test = made .before .before in
     let a = test .before .before .before .before .before .args in
-    let call = keep (a .job .now) (a .proposal .now) in
-    with-room (said base (a .shelf .now) call .answer) (a .answer .now) (a .shelf .now) (after base (a .shelf .now) call) (said-small (a .shelf .now) call) (test .if1 .left) (made .keep .result)
+    let call = own (keep (a .job .now) (a .proposal .now)) in
+    with-room (said (a .shelf .now) call .answer) (a .answer .now) (a .shelf .now) (after (a .shelf .now) call) (said-small (a .shelf .now) call) (test .if1 .left) (made .keep .result)
     (made .keep .ensures .0) (given .give .ensures .0) (given .give .ensures .1) (made .keep .ensures .1)
 
 pub bench-keep-spec : {M : Type 1} → statement M

@@ -9,6 +9,7 @@ use Rattle.checked.specs.declared.Answer.{Answer}
 use Rattle.shelf.specs.Given.{tableKept}
 use Rattle.checked.proofs.Values.{lent-length}
 use Rattle.checked.proofs.Packs.{given-packs}
+use Rattle.shelf.specs.Shelf.{layoutIn}
 use Rattle.shelf.proofs.Packs.{kept-packs, refused-packs}
 use borrow.Author.Needs.{needs}
 use Rattle.shelf.proofs.accepted.keep_checked.Statement.{statement}
@@ -54,14 +55,14 @@ returns c = let kept = c .before .before in
     let f = toZ-ofZ {w = w64} {z = F} (record { sfits = known .0 .1 }) in
     let g = toZ-ofZ {w = w64} {z = G} (record { sfits = known .1 .0 .1 }) in
     kept-packs (a .job .now) (a .proposal .now) F G (sym (check .check-into .ensures .0) ∙ told .1) words (check .check-into .ensures .1) rates (check .check-into .ensures .2)
-    (kept .keep-table .result) (kept .keep-table .ensures .0 ∙ ap₂ {C = Answer} (λ (x y : ℤ). record { number = 0; place = 0; loss = natAbs x; gap = natAbs y }) f g)
+    (layoutIn (a .shelf .now)) (kept .keep-table .result) (kept .keep-table .ensures .0 ∙ ap₂ {C = Answer} (λ (x y : ℤ). record { number = 0; place = 0; loss = natAbs x; gap = natAbs y }) f g)
     (a .shelf .now) (kept .keep-table .last .0)
-    (kept .keep-table .ensures .1 ∙ ap₂ (λ (x y : ℤ). tableKept words (natAbs x) (natAbs y) rates (a .shelf .now)) f g)
+    (kept .keep-table .ensures .1 ∙ ap₂ (λ (x y : ℤ). tableKept (layoutIn (a .shelf .now)) words (natAbs x) (natAbs y) rates (a .shelf .now)) f g)
 
 returns-2 : tie.Need-returns-2
 returns-2 c = let told = c .before .before .verdict2 .given in
     let a = c .before .before .before .before .before .before .before .before .before .before .args in
-    refused-packs (a .job .now) (a .proposal .now) (told .0 .0) (told .0 .1 .0) (sym (c .before .before .before .before .check-into .ensures .0) ∙ told .1) (c .plain .result) (c .plain .ensures) (a .shelf .now)
+    refused-packs (layoutIn (a .shelf .now)) (a .job .now) (a .proposal .now) (told .0 .0) (told .0 .1 .0) (sym (c .before .before .before .before .check-into .ensures .0) ∙ told .1) (c .plain .result) (c .plain .ensures) (a .shelf .now)
 
 pub keep-checked-spec : {M : Type 1} → statement M
 keep-checked-spec =

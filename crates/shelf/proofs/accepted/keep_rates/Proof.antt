@@ -4,6 +4,7 @@ use Prim.Native.Nat.{ℕ, _-_}
 use native.Mathlib.Omega.{arith}
 use lib.ListN.{take, drop, replicate}
 use Rattle.checked.specs.Checked.{takenFrom}
+use Rattle.shelf.specs.Shelf.{layoutIn}
 use Rattle.shelf.proofs.Packs.{numbers-part, kept-by}
 use borrow.Author.Needs.{needs}
 use Rattle.shelf.proofs.accepted.keep_rates.Statement.{statement}
@@ -72,7 +73,7 @@ returns c =
     let multipliers = c .before .before .before .before .before .before .before .before .before .before .before .copy-rates2 .last .1 .1 .1 .0 in
     let whole-n : n - 0 ≡ n = omega arith in
     let whole-links : links - 0 ≡ links = omega arith in
-    kept-by (a .words .now) (a .loss) (a .gap) (society .result) (number .result) (society .ensures) (number .ensures)
+    kept-by (layoutIn (a .shelf .now)) (a .words .now) (a .loss) (a .gap) (society .result) (number .result) (society .ensures) (number .ensures)
     (take (n - 0) (drop 0 values)) (takenFrom 0 n rates) (take (links - 0) (drop 0 multipliers)) (takenFrom n links rates)
     (ap (λ (k : ℕ). take k (drop 0 values)) whole-n ∙ numbers-part 0 n rates (drop n (replicate 120 0)) values (R .values .inside) (c .before .before .before .before .before .before .before .before .before .before .before .before .before .before .copy-rates .ensures))
     (ap (λ (k : ℕ). take k (drop 0 multipliers)) whole-links ∙ numbers-part n links rates (drop links (replicate 160 0)) multipliers (R .multipliers .inside) (c .before .before .before .before .before .before .before .before .before .before .before .copy-rates2 .ensures))

@@ -9,6 +9,7 @@ use Rattle.jobs.proofs.Places.{head-few}
 use Rattle.checked.specs.declared.Answer.{Answer}
 use Rattle.checked.specs.Checked.{takenFrom}
 use Rattle.shelf.specs.Given.{keptFrom, tableKept}
+use Rattle.shelf.specs.Shelf.{layoutIn}
 use Rattle.shelf.proofs.Packs.{links-place, rated-given}
 use borrow.Author.Needs.{needs}
 use Rattle.shelf.proofs.accepted.keep_table.Statement.{statement}
@@ -63,8 +64,8 @@ returns c =
     let el : links .result ≡ linksOf words = links .ensures ∙ ap (countAt words) (c .before .before .before .before .before .links-at .ensures ∙ links-place words (n .ensures)) in (
       ap₂ {C = Answer} (λ (x y : ℕ). record { number = 0; place = 0; loss = x; gap = y }) f g,
       c .before .before .keep-rates .ensures
-          ∙ ap₂ (λ (n l : ℕ). keptFrom words (F .result) (G .result) (takenFrom 0 n rates) (takenFrom n l rates) shelf) (n .ensures) el
-          ∙ ap₂ (λ (x y : ℕ). tableKept words x y rates shelf) f g,
+          ∙ ap₂ (λ (n l : ℕ). keptFrom (layoutIn shelf) words (F .result) (G .result) (takenFrom 0 n rates) (takenFrom n l rates) shelf) (n .ensures) el
+          ∙ ap₂ (λ (x y : ℕ). tableKept (layoutIn shelf) words x y rates shelf) f g,
     )
 
 pub keep-table-spec : {M : Type 1} → statement M

@@ -4,7 +4,7 @@ use lib.IntN.{pos}
 use lib.ListN.{length, take, replicate, length-replicate}
 use Rattle.jobs.specs.Words.{jobOf}
 use Rattle.checked.specs.Answers.{refusal}
-use Rattle.shelf.specs.Shelf.{base, fetchFrom, fetchReply}
+use Rattle.shelf.specs.Shelf.{layoutIn, fetchFrom, fetchReply}
 use Rattle.shelf.proofs.Picked.{replied}
 use Rattle.shelf.proofs.Presented.{presented, fetch-read, fetch-unread}
 use borrow.Author.Needs.{needs}
@@ -27,7 +27,7 @@ fetch-part-requires : tie.Need-fetch-part-requires
 fetch-part-requires c κs =
     let start = c .before .before .before .before .before .before .before .before .before .before .before in
     let read = c .before .before .before .before .before .before .read in
-    let p = presented (start .args .job .now) (replicate 2092 (pos 0)) (length-replicate 2092 (pos 0)) (read .ensures .0) (read .ensures .1) base 0 (start .args .shelf .now) (c .before .before .before .read2 .given .1) in
+    let p = presented (start .args .job .now) (replicate 2092 (pos 0)) (length-replicate 2092 (pos 0)) (read .ensures .0) (read .ensures .1) (layoutIn (start .args .shelf .now)) 0 (start .args .shelf .now) (c .before .before .before .read2 .given .1) in
     (start .pre, p .0, p .1)
 
 enum-known-read-2 : tie.Need-enum-known-read-2
@@ -48,8 +48,8 @@ returns c =
     let read = c .before .before .before .before .before .before .before .before .before .read in
     let words = read .last .1 .1 .0 in
     let k = c .before .before .before .before .before .before .read2 .given .0 .0 in
-    replied (fetchFrom base (jobOf (take k words)) (length o) (a .shelf .now)) (fetchReply base (a .job .now) (length o) (a .shelf .now)) (got .result) o (got .last .1 .1 .1 .0)
-    (fetch-read (a .job .now) (replicate 2092 (pos 0)) (length-replicate 2092 (pos 0)) (read .ensures .0) (read .ensures .1) base (length o) (a .shelf .now) (c .before .before .before .before .before .before .read2 .given .1)) (got .ensures .0) (got .ensures .1)
+    replied (fetchFrom (layoutIn (a .shelf .now)) (jobOf (take k words)) (length o) (a .shelf .now)) (fetchReply (layoutIn (a .shelf .now)) (a .job .now) (length o) (a .shelf .now)) (got .result) o (got .last .1 .1 .1 .0)
+    (fetch-read (a .job .now) (replicate 2092 (pos 0)) (length-replicate 2092 (pos 0)) (read .ensures .0) (read .ensures .1) (layoutIn (a .shelf .now)) (length o) (a .shelf .now) (c .before .before .before .before .before .before .read2 .given .1)) (got .ensures .0) (got .ensures .1)
 
 returns-2 : tie.Need-returns-2
 returns-2 c =
@@ -57,8 +57,8 @@ returns-2 c =
     let o = a .out .now in
     let read = c .before .before .before .before .before .read in
     let told = c .before .before .read3 .given in
-    replied (refusal (told .0 .0) (told .0 .1 .0)) (fetchReply base (a .job .now) (length o) (a .shelf .now)) (c .plain .result) o o
-    (fetch-unread (a .job .now) (replicate 2092 (pos 0)) (length-replicate 2092 (pos 0)) (read .ensures .0) (read .ensures .1) base (length o) (a .shelf .now) (told .1)) (c .plain .ensures) refl
+    replied (refusal (told .0 .0) (told .0 .1 .0)) (fetchReply (layoutIn (a .shelf .now)) (a .job .now) (length o) (a .shelf .now)) (c .plain .result) o o
+    (fetch-unread (a .job .now) (replicate 2092 (pos 0)) (length-replicate 2092 (pos 0)) (read .ensures .0) (read .ensures .1) (layoutIn (a .shelf .now)) (length o) (a .shelf .now) (told .1)) (c .plain .ensures) refl
 
 pub fetch-pack-spec : {M : Type 1} → statement M
 fetch-pack-spec =

@@ -1,0 +1,93 @@
+-- The words behind the last span: no call touches them, not even clearing.
+use mathlib.Core.Path.{_≡_, refl, sym, ap, ap₂, _∙_, subst}
+use mathlib.Core.Bool.{Bool, true, false, cond}
+use mathlib.Core.List.{List, _++_, append-assoc}
+use Prim.Native.Nat.{ℕ, _+_, _*_, _≤_}
+use native.Mathlib.Omega.{arith}
+use lib.Dec.{leb, ltb}
+use lib.ListN.{length, take, drop, replicate, length-append, length-drop, length-replicate}
+use lib.Seq.{take-all, drop-at}
+use borrow.Author.Tests.{leb-true, ltb-true, ltb-false}
+use Rattle.shelf.specs.declared.Row.the-variants.{Right}
+use Rattle.shelf.specs.Counts.{societies, countIn, slotsOf, testRow}
+use Rattle.shelf.specs.Checked.{Checked, checkedOf, accepted}
+use Rattle.shelf.specs.Shelf.{Ready, Layout, slotWords, shelfWords, rowed, rowIn, sizeOf, spanOf, onPart, onSociety, keptShelf, forgotShelf, cleared}
+use Rattle.shelf.specs.Calls.{Own, keep, fetch, forget, own, clear, laidAfter, after}
+use Rattle.shelf.proofs.Parts.{on-after}
+use Rattle.shelf.proofs.Spans.{Lawful, society-length}
+use Rattle.shelf.proofs.Rows.{below-next, rowed-lawful, right-eight}
+use Rattle.shelf.proofs.Lengths.{after-right, clear-right}
+use Rattle.shelf.proofs.Sound.{Sound, accepted-sound}
+use Rattle.claims.specs.ShelfPromises.{restOf}
+use Rattle.claims.proofs.Steps.{keepStep, forgetStep, kept-same, forgot-same}
+
+-- the words from b on, as a part that is long enough
+all-of : (b : ℕ) (xs : List ℕ) → length xs ≡ shelfWords → take shelfWords (drop b xs) ≡ drop b xs
+all-of b xs len = take-all shelfWords (drop b xs) (rw length-drop (omega arith))
+
+module _ (row : List ℕ) (right : testRow row ≡ Right) where
+  abbrev l : Layout
+  l = rowed row
+
+  ok : Lawful l
+  ok = rowed-lawful row right
+
+  -- where the rest starts: every span ends before it
+  abbrev behind : ℕ
+  behind = societies + slotWords * slotsOf row
+
+  last-end : l .start 7 + sizeOf l 7 ≤ behind
+  last-end = omega (arith, below-next (countIn row) 7)
+
+  ends : (s : ℕ) → s ≤ 7 → l .start s + sizeOf l s ≤ behind
+  ends s h = go (ltb s 7) refl
+    where
+      go : (b : Bool) → ltb s 7 ≡ b → l .start s + sizeOf l s ≤ behind
+      go true e = omega (arith, ok .apart s 7 (ltb-true s 7 e) (omega arith), last-end)
+      go false e =
+          let k = ltb-false s 7 e in
+          let q : 7 ≡ s = omega arith in
+          subst (λ (t : ℕ). l .start t + sizeOf l t ≤ behind) q last-end
+
+  -- ---- what is done to a span
+  module _ (s : ℕ) (f : List ℕ → List ℕ) (xs : List ℕ) (len : length xs ≡ shelfWords) (same : s ≤ 7 → length (f (spanOf l s xs)) ≡ sizeOf l s) where
+    part-on : take shelfWords (drop behind (onSociety l s f xs)) ≡ take shelfWords (drop behind xs)
+    unfolding onSociety
+    part-on = go (leb s 7) refl
+      where
+        go : (b : Bool) → leb s 7 ≡ b → take shelfWords (drop behind (cond b (onPart (l .start s) (sizeOf l s) f xs) xs)) ≡ take shelfWords (drop behind xs)
+        go true e =
+            let h = leb-true s 7 e in
+            on-after (l .start s) (sizeOf l s) f xs (omega (arith, ok .within s h)) (same h) behind shelfWords (ends s h)
+        go false e = refl
+
+    rest-on : restOf row (onSociety l s f xs) ≡ restOf row xs
+    rest-on = sym (all-of behind (onSociety l s f xs) (society-length l ok s f xs len same)) ∙ part-on ∙ all-of behind xs len
+
+  -- ---- each call
+  kept-rest : (o : Checked) → (accepted (o .verdict) ≡ true → Sound o) → (xs : List ℕ) → length xs ≡ shelfWords → restOf row (keptShelf l o xs) ≡ restOf row xs
+  unfolding keptShelf
+  kept-rest o sound xs len = go (accepted (o .verdict)) refl
+    where
+      go : (b : Bool) → accepted (o .verdict) ≡ b → restOf row (cond b (onSociety l (o .society) (keepStep l ok o) xs) xs) ≡ restOf row xs
+      go true e = rest-on (o .society) (keepStep l ok o) xs len (λ h. kept-same l ok o xs len (sound e))
+      go false e = refl
+
+  laid-rest : (call : Own) (xs : List ℕ) → length xs ≡ shelfWords → restOf row (laidAfter l xs call) ≡ restOf row xs
+  unfolding forgotShelf
+  laid-rest (keep job proposal) xs len = kept-rest (checkedOf job proposal) (accepted-sound job proposal) xs len
+  laid-rest (fetch job room) xs len = refl
+  laid-rest (forget s job) xs len = rest-on s (forgetStep l ok s job) xs len (forgot-same l ok s job xs len)
+
+  cleared-rest : length row ≡ societies → (xs : List ℕ) → restOf row (cleared row xs) ≡ restOf row xs
+  unfolding cleared
+  cleared-rest eight xs =
+      let n = slotWords * slotsOf row in
+      let zeros : List ℕ = replicate n 0 in
+      ap (drop behind) (sym (append-assoc row zeros (drop behind xs))) ∙ drop-at (row ++ zeros) (drop behind xs) behind (length-append row zeros ∙ ap₂ _+_ eight (length-replicate {A = ℕ} n 0))
+
+pub rest-of : (shelf : List ℕ) → Ready shelf → (call : Own) → restOf (rowIn shelf) (after shelf (own call)) ≡ restOf (rowIn shelf) shelf
+rest-of shelf r call = ap (restOf (rowIn shelf)) (sym (after-right shelf (r .long) (r .row) call)) ∙ laid-rest (rowIn shelf) (r .row) call shelf (r .long)
+
+pub rest-cleared : (shelf counts : List ℕ) → length shelf ≡ shelfWords → testRow (rowIn counts) ≡ Right → restOf (rowIn counts) (after shelf (clear counts)) ≡ restOf (rowIn counts) shelf
+rest-cleared shelf counts len e = ap (restOf (rowIn counts)) (sym (clear-right shelf len counts e .1)) ∙ cleared-rest (rowIn counts) e (right-eight counts e) shelf

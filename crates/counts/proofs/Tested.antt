@@ -1,0 +1,143 @@
+-- What the test of a row says of its counts.
+use mathlib.Core.Path.{_≡_, refl, sym, ap, _∙_, subst}
+use mathlib.Core.Bool.{Bool, true, false, cond, _||_}
+use mathlib.Core.List.{List, [], _∷_}
+use Prim.Native.Nat.{ℕ, zero, suc, _+_, _*_, _<_, _≤_}
+use native.Mathlib.Omega.{arith}
+use lib.Dec.{leb, ltb}
+use lib.ListN.{length, take, drop, getD}
+use lib.Seq.{length-take-le, take-all, getD-drop, getD-take, drop-drop}
+use borrow.Author.Tests.{le-leb, lt-leb, leb-true, leb-false, lt-ltb, le-ltb, ltb-false}
+use Rattle.slots.specs.declared.Slot.{Slot}
+use Rattle.slots.specs.declared.Slot.the-variants.{At, Nowhere}
+use Rattle.slots.specs.Slots.{slotWords, lowest, pick, later, atSlot}
+use Rattle.slots.proofs.Lowest.{first-word}
+use Rattle.slots.proofs.Sizes.{no-slot, found-below}
+use Rattle.counts.specs.declared.Row.{Row}
+use Rattle.counts.specs.declared.Row.the-variants.{Right, Wrong}
+use Rattle.counts.specs.Counts.{societies, mostSlots, allSlots, shelfWords, countIn, slotsOf, isWrong, lowestWrong, testTotal, testRow, rowIn, startIn, Ready}
+use Rattle.counts.specs.Given.{Counts}
+use Rattle.counts.proofs.Below.{below-apart}
+
+-- ---- a count, by the words of the row
+module _ (row : List ℕ) (at : ℕ) where
+  pub wrong-none : getD row at 0 < 1 → true ≡ isWrong (drop at row)
+  unfolding isWrong
+  wrong-none h = rw (first-word row at, lt-ltb (getD row at 0) 1 h)
+
+  pub wrong-many : 1 ≤ getD row at 0 → ltb mostSlots (getD row at 0) ≡ isWrong (drop at row)
+  unfolding isWrong
+  wrong-many h = rw (first-word row at, le-ltb (getD row at 0) 1 h)
+
+  -- a count that is not wrong is 1 to 16
+  right-count : isWrong (drop at row) ≡ false → (1 ≤ getD row at 0) × (getD row at 0 ≤ mostSlots)
+  unfolding isWrong
+  right-count e = go (ltb (getD row at 0) 1) refl (ltb mostSlots (getD row at 0)) refl (ap (λ (n : ℕ). ltb n 1 || ltb mostSlots n) (sym (first-word row at)) ∙ e)
+    where
+      go : (a : Bool) → ltb (getD row at 0) 1 ≡ a → (b : Bool) → ltb mostSlots (getD row at 0) ≡ b → a || b ≡ false → (1 ≤ getD row at 0) × (getD row at 0 ≤ mostSlots)
+      go false p false q f = (ltb-false (getD row at 0) 1 p, ltb-false mostSlots (getD row at 0) q)
+      go false p true q f = let z : _≡_ {A = ℕ} 0 1 = cc in absurd (omega arith)
+      go true p b q f = let z : _≡_ {A = ℕ} 0 1 = cc in absurd (omega arith)
+
+-- where no slot passes a test, each fails it
+none-passes : (test : List ℕ → Bool) (c : ℕ) (s : List ℕ) → lowest test 1 c s ≡ Nowhere → (p : ℕ) → p < c → test (drop p s) ≡ false
+unfolding lowest
+none-passes test zero s e p h = absurd (omega arith)
+none-passes test (suc c) s e p h = go (test s) refl (lowest test 1 c (drop 1 s)) refl e (none-passes test c (drop 1 s)) p h
+  where
+    go : (b : Bool) → test s ≡ b → (o : Slot) → lowest test 1 c (drop 1 s) ≡ o → pick b (At 0) (later o) ≡ Nowhere
+        → (lowest test 1 c (drop 1 s) ≡ Nowhere → (p : ℕ) → p < c → test (drop p (drop 1 s)) ≡ false) → (p : ℕ) → p < suc c → test (drop p s) ≡ false
+    go true q o r f others p h = absurd (no-slot 0 (sym f))
+    go false q (At n) r f others p h = absurd (no-slot (suc n) (sym f))
+    go false q Nowhere r f others zero h = q
+    go false q Nowhere r f others (suc p) h =
+        let e : 1 + p ≡ suc p = omega arith in
+        ap test (ap (λ (k : ℕ). drop k s) (sym e) ∙ sym (drop-drop p 1 s)) ∙ others r p (omega arith)
+
+-- ---- the cases of the test
+module _ (row : List ℕ) where
+  pub test-wrong : (s : ℕ) → lowestWrong row ≡ At s → Wrong s ≡ testRow row
+  unfolding testRow
+  test-wrong s e = sym (ap {B = Row} (λ (o : Slot). atSlot o (λ society. Wrong society) (testTotal row)) e)
+
+  pub test-others : lowestWrong row ≡ Nowhere → testTotal row ≡ testRow row
+  unfolding testRow
+  test-others e = sym (ap {B = Row} (λ (o : Slot). atSlot o (λ society. Wrong society) (testTotal row)) e)
+
+  pub total-right : (n : ℕ) → n ≡ slotsOf row → n ≤ allSlots → Right ≡ testTotal row
+  total-right n e h = sym (ap {B = Row} (λ (b : Bool). cond b Right (Wrong societies)) (le-leb (slotsOf row) allSlots (subst (λ (m : ℕ). m ≤ allSlots) e h)))
+
+  pub total-many : (n : ℕ) → n ≡ slotsOf row → allSlots < n → Wrong societies ≡ testTotal row
+  total-many n e h = sym (ap {B = Row} (λ (b : Bool). cond b Right (Wrong societies)) (lt-leb (slotsOf row) allSlots (subst (λ (m : ℕ). allSlots < m) e h)))
+
+never : {A : Type 0} (p : ℕ) → Wrong p ≡ Right → A
+never p e = let z : _≡_ {A = ℕ} 0 1 = cc in absurd (omega arith)
+
+-- ---- a row that is right
+pub record Allotted (row : List ℕ) : Type 0 where
+  pub some : (s : ℕ) → s < societies → 1 ≤ countIn row s
+  pub few : (s : ℕ) → s < societies → countIn row s ≤ mostSlots
+  pub total : slotsOf row ≤ allSlots
+
+-- its spans lie within the shelf
+pub row-inside : (row : List ℕ) → Allotted row → (s : ℕ) → s < societies → startIn row s + slotWords * countIn row s ≤ shelfWords
+row-inside row a s h = omega (arith, below-apart (countIn row) s societies h, a .total)
+
+-- every count is 1 to 16
+pub each-right : (row : List ℕ) → lowestWrong row ≡ Nowhere → (s : ℕ) → s < societies → (1 ≤ countIn row s) × (countIn row s ≤ mostSlots)
+each-right row e s h = right-count row s (none-passes isWrong societies row e s h)
+
+pub right-allotted : (row : List ℕ) → testRow row ≡ Right → Allotted row
+unfolding testRow
+right-allotted row e = go (lowestWrong row) refl (leb (slotsOf row) allSlots) refl e
+  where
+    go : (o : Slot) → lowestWrong row ≡ o → (b : Bool) → leb (slotsOf row) allSlots ≡ b → atSlot o (λ society. Wrong society) (cond b Right (Wrong societies)) ≡ Right → Allotted row
+    go (At s) p b q f = never s f
+    go Nowhere p true q f = record { some = λ s h. each-right row p s h .0; few = λ s h. each-right row p s h .1; total = leb-true (slotsOf row) allSlots q }
+    go Nowhere p false q f = never societies f
+
+-- a fault is at a society, or at 8
+pub wrong-place : (row : List ℕ) (place : ℕ) → testRow row ≡ Wrong place → place ≤ societies
+unfolding testRow
+wrong-place row place e = go (lowestWrong row) refl (leb (slotsOf row) allSlots) e
+  where
+    go : (o : Slot) → lowestWrong row ≡ o → (b : Bool) → atSlot o (λ society. Wrong society) (cond b Right (Wrong societies)) ≡ Wrong place → place ≤ societies
+    go (At s) p b f = let z : s ≡ place = cc in omega (arith, found-below isWrong 1 societies row s p)
+    go Nowhere p true f = never place (sym f)
+    go Nowhere p false f = let z : societies ≡ place = cc in omega arith
+
+-- ---- a row has eight counts
+some-inside : (i : ℕ) (xs : List ℕ) → 1 ≤ getD xs i 0 → i < length xs
+some-inside i [] h = absurd (omega arith)
+some-inside zero (x ∷ xs) h = omega arith
+some-inside (suc i) (x ∷ xs) h = let k = some-inside i xs h in omega arith
+
+pub right-eight : (counts : List ℕ) → testRow (rowIn counts) ≡ Right → length (rowIn counts) ≡ societies
+right-eight counts e = go (leb societies (length counts)) refl (some-inside 7 (rowIn counts) (right-allotted (rowIn counts) e .some 7 (omega arith)))
+  where
+    go : (b : Bool) → leb societies (length counts) ≡ b → 7 < length (rowIn counts) → length (rowIn counts) ≡ societies
+    go true q k = length-take-le societies counts (leb-true societies (length counts) q)
+    go false q k =
+        let s = leb-false societies (length counts) q in
+        absurd (omega (arith, ap length (take-all societies counts (omega arith))))
+
+-- ---- counts that may be added up
+pub counts-right : (row : List ℕ) → length row ≡ societies → lowestWrong row ≡ Nowhere → Counts row societies
+counts-right row len e = record { inside = omega arith; few = omega arith; small = λ i k. each-right row e i k .1 }
+
+pub counts-allotted : (row : List ℕ) → length row ≡ societies → Allotted row → (s : ℕ) → s ≤ societies → Counts row s
+counts-allotted row len a s h = record { inside = omega arith; few = h; small = λ i k. a .few i (omega arith) }
+
+-- ---- a shelf that is ready
+module _ (shelf : List ℕ) (r : Ready shelf) (s : ℕ) (h : s < societies) where
+  pub ready-counts : Counts (rowIn shelf) s
+  ready-counts = counts-allotted (rowIn shelf) (length-take-le societies shelf (omega (arith, r .long))) (right-allotted (rowIn shelf) (r .row)) s (omega arith)
+
+  pub count-at : getD shelf s 0 ≡ countIn (rowIn shelf) s
+  count-at = sym (rw getD-take)
+
+  pub count-some : 0 < countIn (rowIn shelf) s
+  count-some = right-allotted (rowIn shelf) (r .row) .some s h
+
+  pub span-inside : startIn (rowIn shelf) s + slotWords * countIn (rowIn shelf) s ≤ shelfWords
+  span-inside = row-inside (rowIn shelf) (right-allotted (rowIn shelf) (r .row)) s h

@@ -1,17 +1,16 @@
--- The leading row and the spans: a row that is right has a lawful layout, its spans lie within the shelf, and no call but clearing changes it.
+-- The leading row and the spans: a row that is right has a lawful layout, and no call but clearing changes it.
 use mathlib.Core.Path.{_≡_, refl}
 use mathlib.Core.Bool.{Bool, true, false, cond}
 use mathlib.Core.List.{List}
-use Prim.Native.Nat.{ℕ, _+_, _*_, _≤_}
+use Prim.Native.Nat.{ℕ, _≤_}
 use native.Mathlib.Omega.{arith}
 use lib.Dec.{leb}
 use lib.ListN.{length}
 use borrow.Author.Tests.{leb-true}
-use Rattle.slots.specs.Slots.{slotWords}
 use Rattle.counts.specs.declared.Row.the-variants.{Right}
-use Rattle.counts.specs.Counts.{societies, shelfWords, countIn, testRow, rowIn, startIn, Ready}
+use Rattle.counts.specs.Counts.{societies, shelfWords, countIn, testRow, rowIn, Ready}
 use Rattle.counts.proofs.Below.{below-apart}
-use Rattle.counts.proofs.Tested.{right-allotted}
+use Rattle.counts.proofs.Tested.{right-allotted, row-inside}
 use Rattle.shelf.specs.Shelf.{rowed, layoutIn, sizeOf, spanOf, onPart, onSociety}
 use Rattle.shelf.proofs.Parts.{on-before}
 use Rattle.shelf.proofs.Spans.{Lawful}
@@ -23,7 +22,7 @@ rowed-lawful row e =
     record {
       wide = omega arith;
       some = λ s h. r .some s (omega arith);
-      within = λ s h. omega (arith, below-apart c s societies (omega arith), r .total);
+      within = λ s h. row-inside row r s (omega arith);
       apart = λ s t h k. omega (arith, below-apart c s t h);
     }
 
@@ -31,10 +30,6 @@ rowed-lawful row e =
 module _ (shelf : List ℕ) (r : Ready shelf) where
   pub ready-lawful : Lawful (layoutIn shelf)
   ready-lawful = rowed-lawful (rowIn shelf) (r .row)
-
-  -- the span of a society, by the start and the count that were found
-  pub span-inside : (s a n : ℕ) → s ≤ 7 → a ≡ startIn (rowIn shelf) s → n ≡ countIn (rowIn shelf) s → a + slotWords * n ≤ length shelf
-  span-inside s a n h ea en = omega (arith, r .long, ready-lawful .within s h)
 
 -- ---- no call but clearing changes the row
 pub row-stays : (row : List ℕ) → testRow row ≡ Right → (s : ℕ) (f : List ℕ → List ℕ) (xs : List ℕ) → length xs ≡ shelfWords

@@ -5,11 +5,10 @@ use Prim.Native.Nat.{ℕ}
 use native.Mathlib.Omega.{arith}
 use lib.ListN.{length}
 use lib.Seq.{take-all}
-use Rattle.shelf.specs.declared.Row.{Row}
-use Rattle.shelf.specs.declared.Answer.{Answer}
-use Rattle.shelf.specs.Counts.{societies, testRow}
-use Rattle.shelf.specs.Slots.{Reply}
-use Rattle.shelf.specs.Shelf.{rowIn, cleared}
+use Rattle.counts.specs.declared.Row.{Row}
+use Rattle.counts.specs.Counts.{societies, testRow, rowIn, cleared}
+use Rattle.checked.specs.declared.Answer.{Answer}
+use Rattle.checked.specs.Answers.{Reply}
 use Rattle.shelf.specs.Calls.{clear}
 use Rattle.shelf.proofs.Lengths.{not-whole, clear-right, clear-wrong}
 use borrow.Author.Needs.{needs}

@@ -20,49 +20,23 @@ use Rattle.jobs.proofs.Near.{job-read-near}
 use Rattle.jobs.proofs.Readings.{read-jobs-allowed}
 use Rattle.measure.specs.declared.check.Verdict.{Verdict}
 use Rattle.measure.specs.declared.check.Verdict.the-variants.{Accepted, Refused}
-<<<<<<< ours
 use Rattle.measure.specs.Check.{valuesOf, multipliersOf, verdictFor}
 use Rattle.slots.specs.declared.Slot.{Slot}
 use Rattle.slots.specs.declared.Slot.the-variants.{At, Nowhere}
 use Rattle.slots.specs.Slots.{headSize, valuesEnd, lowest, hasJob, atSlot}
+use Rattle.counts.specs.declared.Row.{Row}
+use Rattle.counts.specs.declared.Row.the-variants.{Right, Wrong}
+use Rattle.counts.specs.Counts.{shelfWords, testRow, onRow, rowIn}
+use Rattle.counts.proofs.Tested.{wrong-place}
 use Rattle.checked.specs.Answers.{Reply, refusal, done, answerOf}
-use Rattle.shelf.specs.Shelf.{forgetReply, Layout, base, spanOf, fromSociety, fromWhole, keepReply, fetchFrom, fetchReply, forgotReply}
+use Rattle.shelf.specs.Shelf.{forgetReply, Layout, layoutIn, spanOf, fromSociety, fromWhole, keepReply, fetchFrom, fetchReply, forgotReply}
 use Rattle.checked.specs.Checked.{checkedOf}
 use Rattle.shelf.specs.Fetched.{mostValue, mostMultiplier, lowestAbove, orSix, proposalOf, keptVerdict, handed, sameCounts, fetchTable, keptCells, keptLinks, keptValues, keptMultipliers, fetchAt, fetchIn, onJob}
-use Rattle.shelf.specs.Calls.{Call, keep, fetch, forget, clear, wholeSaid, said}
-||||||| base
-use Rattle.measure.specs.Check.{valuesOf, multipliersOf}
-use Rattle.shelf.specs.declared.Slot.{Slot}
-use Rattle.shelf.specs.declared.Slot.the-variants.{At, Nowhere}
-use Rattle.shelf.specs.Slots.{Reply, refusal, done, headSize, valuesEnd, lowest, hasJob, atSlot, forgetReply}
-use Rattle.shelf.specs.Checked.{checkedOf, answerOf}
-use Rattle.shelf.specs.Fetched.{mostValue, mostMultiplier, lowestAbove, orSix, proposalOf, verdictFor, keptVerdict, handed, sameCounts, fetchTable, keptCells, keptLinks, keptValues, keptMultipliers, fetchAt, fetchIn, onJob}
-use Rattle.shelf.specs.Shelf.{Layout, base, spanOf, fromSociety, fromWhole, keepReply, fetchFrom, fetchReply, forgotReply}
-use Rattle.shelf.specs.Calls.{Call, keep, fetch, forget, clear, wholeSaid, said}
-=======
-use Rattle.measure.specs.Check.{valuesOf, multipliersOf}
-use Rattle.shelf.specs.declared.Slot.{Slot}
-use Rattle.shelf.specs.declared.Slot.the-variants.{At, Nowhere}
-use Rattle.shelf.specs.Slots.{Reply, refusal, done, headSize, valuesEnd, lowest, hasJob, atSlot, forgetReply}
-use Rattle.shelf.specs.Checked.{checkedOf, answerOf}
-use Rattle.shelf.specs.Fetched.{mostValue, mostMultiplier, lowestAbove, orSix, proposalOf, verdictFor, keptVerdict, handed, sameCounts, fetchTable, keptCells, keptLinks, keptValues, keptMultipliers, fetchAt, fetchIn, onJob}
-use Rattle.shelf.specs.Shelf.{Layout, shelfWords, rowIn, layoutIn, spanOf, fromSociety, fromWhole, keepReply, fetchFrom, fetchReply, forgotReply}
 use Rattle.shelf.specs.Calls.{Own, Call, keep, fetch, forget, own, clear, laidSaid, wholeSaid, said}
-use Rattle.shelf.specs.declared.Row.{Row}
-use Rattle.shelf.specs.declared.Row.the-variants.{Right, Wrong}
-use Rattle.shelf.specs.Counts.{testRow, onRow}
->>>>>>> theirs
 use Rattle.shelf.proofs.Picked.{and-left, and-right}
-use Rattle.shelf.proofs.Rows.{wrong-place}
 use Rattle.bench.proofs.Small.{Small, verdict-small, check-small}
 
-<<<<<<< ours
 refusal-small : (number place : ℕ) → number ≤ 31 → place ≤ 20920 → Small (refusal number place .answer)
-||||||| base
-refusal-small : (number place : ℕ) → number ≤ 13 → place ≤ 20870 → Small (refusal number place .answer)
-=======
-refusal-small : (number place : ℕ) → number ≤ 22 → place ≤ 20870 → Small (refusal number place .answer)
->>>>>>> theirs
 refusal-small number place h l = record { number = h; place = l }
 
 -- ---- a fetch

@@ -1,10 +1,4 @@
-<<<<<<< ours
--- No answer's number and place are too large for the one number that tells both: the number is 13 at most, and the place 20,920.
-||||||| base
--- No answer's number and place are too large for the one number that tells both: the number is 13 at most, and the place 20,870.
-=======
--- No answer's number and place are too large for the one number that tells both: the number is 22 at most, and the place 20,870.
->>>>>>> theirs
+-- No answer's number and place are too large for the one number that tells both: the number is 31 at most, and the place 20,920.
 use Prim.Native.Nat.{ℕ, _^_, _%_, _≤_}
 use mathlib.Core.Path.{_≡_, refl}
 use mathlib.Core.Bool.{Bool, true, false}
@@ -36,16 +30,8 @@ use Rattle.checked.specs.Answers.{answerOf}
 use Rattle.bench.specs.Answers.{codeOf}
 
 pub record Small (a : Answer) : Type 0 where
-<<<<<<< ours
   pub number : a .number ≤ 31
   pub place : a .place ≤ 20920
-||||||| base
-  pub number : a .number ≤ 13
-  pub place : a .place ≤ 20870
-=======
-  pub number : a .number ≤ 22
-  pub place : a .place ≤ 20870
->>>>>>> theirs
 
 pub code-told : {a : Answer} → Small a → codeOf a % 2 ^ 64 ≡ codeOf a
 code-told s = omega (arith, s .number, s .place)
@@ -60,13 +46,7 @@ judged-small j v y = go (leZ (gapOf j v y) (j .tolerance))
     go false = record { number = omega arith; place = omega arith }
 
 -- a refusal whose place is among n, or what comes after it
-<<<<<<< ours
 among-small : (number x n : ℕ) (later : Verdict) → number ≤ 31 → n ≤ 160 → Small (answerOf later) → Small (answerOf (if ltb x n then Refused number x else later))
-||||||| base
-among-small : (number x n : ℕ) (later : Verdict) → number ≤ 13 → n ≤ 160 → Small (answerOf later) → Small (answerOf (if ltb x n then Refused number x else later))
-=======
-among-small : (number x n : ℕ) (later : Verdict) → number ≤ 22 → n ≤ 160 → Small (answerOf later) → Small (answerOf (if ltb x n then Refused number x else later))
->>>>>>> theirs
 among-small number x n later h m l = go (ltb x n) refl
   where
     go : (t : Bool) → ltb x n ≡ t → Small (answerOf (if t then Refused number x else later))

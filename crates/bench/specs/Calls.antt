@@ -10,23 +10,9 @@ use Rattle.packs.specs.Writing.{Written, roomed}
 use Rattle.jobs.specs.Packs.{readJobInto, writeJob}
 use Rattle.measure.specs.Check.{checkOf}
 use Rattle.house.specs.Proposal.{proposeOf}
-<<<<<<< ours
 use Rattle.checked.specs.declared.Answer.{Answer}
 use Rattle.checked.specs.Answers.{refusal, overwritten, answerOf}
-use Rattle.shelf.specs.Shelf.{base}
-use Rattle.shelf.specs.Calls.{Call, fetch, after, said}
-||||||| base
-use Rattle.shelf.specs.declared.Answer.{Answer}
-use Rattle.shelf.specs.Slots.{refusal, overwritten}
-use Rattle.shelf.specs.Checked.{answerOf}
-use Rattle.shelf.specs.Shelf.{base}
-use Rattle.shelf.specs.Calls.{Call, fetch, after, said}
-=======
-use Rattle.shelf.specs.declared.Answer.{Answer}
-use Rattle.shelf.specs.Slots.{refusal, overwritten}
-use Rattle.shelf.specs.Checked.{answerOf}
 use Rattle.shelf.specs.Calls.{Call, own, fetch, after, said}
->>>>>>> theirs
 use Rattle.bench.specs.Answers.{Says}
 
 -- ---- a proposal checked, and one made

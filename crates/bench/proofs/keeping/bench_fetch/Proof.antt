@@ -1,17 +1,7 @@
 -- Fetching is the shelf's own; the answer is given where there is room for it.
 use lib.ListN.{length}
-<<<<<<< ours
 use Rattle.checked.specs.Answers.{overwritten}
-use Rattle.shelf.specs.Shelf.{base}
-use Rattle.shelf.specs.Calls.{fetch, said}
-||||||| base
-use Rattle.shelf.specs.Slots.{overwritten}
-use Rattle.shelf.specs.Shelf.{base}
-use Rattle.shelf.specs.Calls.{fetch, said}
-=======
-use Rattle.shelf.specs.Slots.{overwritten}
 use Rattle.shelf.specs.Calls.{own, fetch, said}
->>>>>>> theirs
 use Rattle.bench.proofs.Endings.{without-room, with-room}
 use Rattle.bench.proofs.Shelves.{said-small}
 use borrow.Author.Needs.{needs}

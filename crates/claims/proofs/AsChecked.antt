@@ -5,16 +5,8 @@ use mathlib.Core.Path.{_≡_, refl, sym, ap, ap₂, _∙_, subst}
 use mathlib.Core.Bool.{Bool, true, false, cond, _&&_}
 use mathlib.Core.List.{List, [], _∷_, _++_, map}
 use native.Mathlib.Omega.{arith}
-<<<<<<< ours
 use borrow.Author.Tests.{ltb-true, ltb-false, eqb-true, eq-eqb}
 use lib.Dec.{eqb, ltb}
-||||||| base
-use borrow.Author.Tests.{ltb-true, ltb-false, eq-eqb}
-use lib.Dec.{eqb, ltb}
-=======
-use borrow.Author.Tests.{ltb-true, ltb-false, eq-eqb}
-use lib.Dec.{ltb}
->>>>>>> theirs
 use lib.IntN.{ℤ, pos, natAbs}
 use lib.ListN.{length, take, drop, getD, length-drop, take-append-drop}
 use lib.Seq.{take-all, getD-drop}
@@ -32,16 +24,8 @@ use Rattle.shelf.specs.Fetched.{mostValue, mostMultiplier, proposalOf, keptVerd
 use Rattle.checked.proofs.Values.{length-map, map-at}
 use Rattle.shelf.proofs.Picked.{and-left, and-right}
 use Rattle.shelf.proofs.Judged.{allowed-verdict}
-<<<<<<< ours
 use Rattle.checked.proofs.Sound.{Packed, accepted-read, values-count, multipliers-count}
 use Rattle.claims.specs.Read.{jobIn, proposalIn, Reads}
-||||||| base
-use Rattle.shelf.proofs.Sound.{Packed, accepted-read, values-count, multipliers-count}
-use Rattle.claims.specs.Read.{jobIn, proposalIn, valuesIn, Reads}
-=======
-use Rattle.shelf.proofs.Sound.{Packed, accepted-read, values-count, multipliers-count}
-use Rattle.claims.specs.Read.{jobIn, proposalIn, Reads}
->>>>>>> theirs
 use Rattle.claims.specs.Lists.{Table, tableFrom, tableFor}
 
 -- ---- lists of whole numbers that are not negative

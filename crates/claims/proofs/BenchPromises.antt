@@ -10,20 +10,9 @@ use lib.ListN.{length, drop}
 use Rattle.packs.specs.Writing.{roomed}
 use Rattle.jobs.specs.Packs.{readJobInto, writeJob}
 use Rattle.measure.specs.Check.{checkOf}
-<<<<<<< ours
 use Rattle.checked.specs.declared.Answer.{Answer}
-use Rattle.shelf.specs.Shelf.{base}
-use Rattle.shelf.specs.Calls.{keep, fetch, forget, clear, after, said}
-||||||| base
-use Rattle.shelf.specs.declared.Answer.{Answer}
-use Rattle.shelf.specs.Shelf.{base}
-use Rattle.shelf.specs.Calls.{keep, fetch, forget, clear, after, said}
-=======
-use Rattle.shelf.specs.declared.Answer.{Answer}
 use Rattle.shelf.specs.Calls.{own, keep, fetch, forget, clear, after, said}
->>>>>>> theirs
 use Rattle.house.specs.Proposal.{proposeOf}
-use Rattle.shelf.proofs.Spans.{base-lawful}
 use Rattle.bench.specs.Answers.{codeOf, answerWords, hasFour, Says}
 use Rattle.bench.proofs.Small.{Small, check-small}
 use Rattle.bench.proofs.Outcomes.{propose-small, read-small, write-small}
@@ -168,16 +157,16 @@ accepted-told = record {
       let t = told-by (said-small shelf (own (keep job proposal))) says z in
       kept-told job proposal shelf a (t .0) (t .1);
   fetch = λ shelf job out answer r a x says z.
-      let t = told-by (said-small shelf (fetch job (length out))) says z in
+      let t = told-by (said-small shelf (own (fetch job (length out)))) says z in
       fetch-told shelf job out a x (t .0) (t .1) (t .2);
 }
 
 -- ---- sequences
 
 pub eight-lists-seen : EightListsSeen
-eight-lists-seen shelf answer len four mades seens m = run-seen (clears answer ∷ mades) shelf seens m ∙ lists-seen base base-lawful shelf answer len four mades
+eight-lists-seen shelf counts answer len right four mades seens m = run-seen (clears counts answer ∷ mades) shelf seens m ∙ lists-seen shelf counts answer len right four mades
 
 pub no-neighbour-seen : NoNeighbourSeen
 no-neighbour-seen society mades shelf seens fewer m k =
     let others = withoutOthers society mades in
-    ap (ownSeen society mades) (run-seen mades shelf seens m) ∙ alone-seen base base-lawful society mades shelf ∙ sym (ap (ownSeen society others) (run-seen others shelf fewer k))
+    ap (ownSeen society mades) (run-seen mades shelf seens m) ∙ alone-seen society mades shelf ∙ sym (ap (ownSeen society others) (run-seen others shelf fewer k))

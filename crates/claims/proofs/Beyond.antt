@@ -30,11 +30,11 @@ use Rattle.slots.specs.declared.Slot.the-variants.{At, Nowhere}
 use Rattle.slots.specs.Slots.{lowest, hasJob, atSlot}
 use Rattle.checked.specs.Answers.{Reply, refusal, overwritten}
 use Rattle.shelf.specs.Fetched.{keptVerdict, handed as handedTo, sameCounts, fetchTable, keptCells, keptLinks, keptValues, keptMultipliers, fetchAt, fetchIn, onJob}
-use Rattle.shelf.specs.Shelf.{Layout, shelfWords, rowIn, layoutIn, spanOf, fromWhole, fetchFrom, fetchReply}
+use Rattle.counts.specs.declared.Row.{Row}
+use Rattle.counts.specs.declared.Row.the-variants.{Right, Wrong}
+use Rattle.counts.specs.Counts.{shelfWords, testRow, onRow, rowIn}
+use Rattle.shelf.specs.Shelf.{Layout, layoutIn, spanOf, fromWhole, fetchFrom, fetchReply}
 use Rattle.shelf.specs.Calls.{own, fetch, laidSaid, said}
-use Rattle.shelf.specs.declared.Row.{Row}
-use Rattle.shelf.specs.declared.Row.the-variants.{Right, Wrong}
-use Rattle.shelf.specs.Counts.{testRow, onRow}
 use Rattle.bench.specs.Calls.{outcomeOf}
 use Rattle.claims.proofs.Unwritten.{handed}
 

@@ -14,38 +14,20 @@ use Rattle.packs.specs.declared.Outcome.the-variants.{Done, Refused as Refuses}
 use Rattle.jobs.specs.Words.{jobOf}
 use Rattle.jobs.specs.Packs.{readJob}
 use Rattle.jobs.proofs.Readings.{read-jobs-allowed}
-<<<<<<< ours
 use Rattle.slots.specs.Slots.{slotWords, keptIn, forgotIn}
-use Rattle.checked.specs.Answers.{Reply, refusal, accepted}
-use Rattle.shelf.specs.Shelf.{forgetReply, Layout, slotFrom, spanOf, sizeOf, onSociety, fromSociety, keptShelf, fetchFrom, fetchReply, forgotShelf, forgotReply, cleared}
-||||||| base
-use Rattle.shelf.specs.Slots.{Reply, refusal, leastWords, keptIn, forgotIn, forgetReply}
-=======
-use Rattle.shelf.specs.declared.Row.{Row}
-use Rattle.shelf.specs.declared.Row.the-variants.{Right, Wrong}
-use Rattle.shelf.specs.Counts.{countIn, testRow, onRow}
-use Rattle.shelf.specs.Slots.{Reply, refusal, done, leastWords, keptIn, forgotIn, forgetReply}
->>>>>>> theirs
+use Rattle.counts.specs.declared.Row.{Row}
+use Rattle.counts.specs.declared.Row.the-variants.{Right, Wrong}
+use Rattle.counts.specs.Counts.{shelfWords, countIn, testRow, onRow, rowIn, cleared}
+use Rattle.counts.proofs.Tested.{right-eight}
+use Rattle.counts.proofs.Cleared.{cleared-row, cleared-length, cleared-span}
+use Rattle.checked.specs.Answers.{Reply, refusal, done, accepted}
+use Rattle.shelf.specs.Shelf.{forgetReply, Layout, rowed, slotFrom, spanOf, sizeOf, onSociety, fromSociety, keptShelf, fetchFrom, fetchReply, forgotShelf, forgotReply}
 use Rattle.shelf.specs.Fetched.{fetchIn, onJob}
-<<<<<<< ours
 use Rattle.checked.specs.Checked.{Checked, checkedOf}
-use Rattle.shelf.specs.Calls.{Call, keep, fetch, forget, clear, wholeAfter, wholeSaid, after, said, shelfRun}
-use Rattle.slots.proofs.Steps.{slot-length}
-use Rattle.shelf.proofs.Lengths.{on-whole, from-whole}
-||||||| base
-use Rattle.shelf.specs.Checked.{Checked, checkedOf, accepted}
-use Rattle.shelf.specs.Shelf.{Layout, slotFrom, spanOf, sizeOf, onSociety, fromSociety, keptShelf, fetchFrom, fetchReply, forgotShelf, forgotReply, cleared}
-use Rattle.shelf.specs.Calls.{Call, keep, fetch, forget, clear, wholeAfter, wholeSaid, after, said, shelfRun}
-use Rattle.shelf.proofs.Moves.{slot-length}
-use Rattle.shelf.proofs.Lengths.{on-whole, from-whole}
-=======
-use Rattle.shelf.specs.Checked.{Checked, checkedOf, accepted}
-use Rattle.shelf.specs.Shelf.{Layout, slotWords, shelfWords, rowed, rowIn, slotFrom, spanOf, sizeOf, onSociety, fromSociety, keptShelf, fetchFrom, fetchReply, forgotShelf, forgotReply, cleared}
 use Rattle.shelf.specs.Calls.{Own, Call, keep, fetch, forget, own, clear, laidAfter, laidSaid, after, said, shelfRun}
-use Rattle.shelf.proofs.Moves.{slot-length}
+use Rattle.slots.proofs.Steps.{slot-length}
 use Rattle.shelf.proofs.Lengths.{said-right, after-right, clear-right, clear-wrong}
-use Rattle.shelf.proofs.Rows.{rowed-lawful, right-eight, cleared-row, cleared-length, cleared-span}
->>>>>>> theirs
+use Rattle.shelf.proofs.Rows.{rowed-lawful}
 use Rattle.shelf.proofs.Sound.{Sound, accepted-sound}
 use Rattle.shelf.proofs.Spans.{Lawful, society-length, own as its-own, other}
 use Rattle.claims.specs.Lists.{Table, tableFrom, removed, kept, fetched, forgotten, Lists, onList, fromList, keptLists, listsAfter, listsSay, Kept, emptied, keptAfter, keptSay, listsRun}
@@ -182,7 +164,7 @@ cleared-stands counts xs e len =
       right = e;
       sim = record {
         long = cleared-length row eight e xs len;
-        spans = λ s h. record { words = cleared-span row eight e xs len s h ∙ sym (laid-none slotWords (countIn row s)); few = zero-le; fit = tt };
+        spans = λ s h. record { words = cleared-span row eight e xs len s (omega arith) ∙ sym (laid-none slotWords (countIn row s)); few = zero-le; fit = tt };
       };
     }
 

@@ -30,11 +30,15 @@ use Rattle.slots.specs.declared.Slot.the-variants.{At, Nowhere}
 use Rattle.slots.specs.Slots.{headSize, valuesEnd, slotWords, lowest, hasJob, atSlot}
 use Rattle.checked.specs.Answers.{Reply, refusal, overwritten, answerOf}
 use Rattle.shelf.specs.Fetched.{mostValue, mostMultiplier, upTo, lowestAbove, orSix, proposalOf, keptVerdict, handed, sameCounts, fetchTable, keptCells, keptLinks, keptValues, keptMultipliers, fetchAt, fetchIn, onJob}
-use Rattle.shelf.specs.Shelf.{base, spanOf, fromWhole, fetchFrom, fetchReply}
-use Rattle.shelf.specs.Calls.{fetch, wholeSaid, said}
+use Rattle.counts.specs.declared.Row.{Row}
+use Rattle.counts.specs.declared.Row.the-variants.{Right, Wrong}
+use Rattle.counts.specs.Counts.{shelfWords, testRow, onRow, rowIn}
+use Rattle.shelf.specs.Shelf.{Layout, layoutIn, spanOf, fromWhole, fetchFrom, fetchReply}
+use Rattle.shelf.specs.Calls.{fetch, own, said}
 use Rattle.shelf.proofs.Picked.{and-left, and-right}
 use Rattle.slots.proofs.Sizes.{found-below, slot-within, slot-end}
-use Rattle.shelf.proofs.Spans.{base-lawful, span-length}
+use Rattle.shelf.proofs.Spans.{Lawful, span-length}
+use Rattle.shelf.proofs.Rows.{rowed-lawful}
 use Rattle.shelf.proofs.Judged.{signed-at, judged-given, all-allowed}
 use Rattle.bench.specs.Answers.{answerWords}
 use Rattle.claims.specs.Read.{jobIn, proposalIn, valuesIn}
@@ -189,30 +193,32 @@ module _ (job : List ℕ) (k : ℕ) (reads : readJob job .outcome ≡ Done k) (r
       go Nowhere e m = absurd (omega (arith, m))
 
 -- ---- a whole shelf, and any words
-whole-behind : (job : List ℕ) (room : ℕ) (shelf : List ℕ) → length shelf ≡ base .total → Behind job (fetchReply base job room shelf)
+whole-behind : (l : Layout) → Lawful l → (job : List ℕ) (room : ℕ) (shelf : List ℕ) → length shelf ≡ l .total → Behind job (fetchReply l job room shelf)
 unfolding fetchReply
-whole-behind job room shelf len n = go (readJob job .outcome) refl n
+whole-behind l ok job room shelf len n = go (readJob job .outcome) refl n
   where
-    go : (o : Outcome) → readJob job .outcome ≡ o → Behind job (onJob o (fetchFrom base (jobIn job) room shelf))
+    go : (o : Outcome) → readJob job .outcome ≡ o → Behind job (onJob o (fetchFrom l (jobIn job) room shelf))
     go (Done k) e m =
         let s = jobIn job .society in
-        span-behind job k e room (base .words) (base .count s) (spanOf base s shelf) (base-lawful .wide) (span-length base base-lawful s shelf len (read-jobs-allowed job k e .society)) m
+        span-behind job k e room (l .words) (l .count s) (spanOf l s shelf) (ok .wide) (span-length l ok s shelf len (read-jobs-allowed job k e .society)) m
     go (Refuses number place) e m = absurd (omega (arith, m, no-other-refusal job [] number place (ap (λ (o : Outcome). onRead o (proposalVerdict (jobIn job) [])) e) .0))
 
-any-behind : (shelf job : List ℕ) (room : ℕ) → Behind job (said base shelf (fetch job room))
+any-behind : (shelf job : List ℕ) (room : ℕ) → Behind job (said shelf (own (fetch job room)))
 unfolding fromWhole
-any-behind shelf job room n = go (eqb (length shelf) (base .total)) refl n
+any-behind shelf job room n = go (eqb (length shelf) shelfWords) refl (testRow (rowIn shelf)) refl n
   where
-    go : (b : Bool) → eqb (length shelf) (base .total) ≡ b → Behind job (cond b (wholeSaid base shelf (fetch job room)) (refusal 13 (base .total)))
-    go true e m = whole-behind job room shelf (eqb-true (length shelf) (base .total) e) m
-    go false e m = absurd (omega (arith, m))
+    go : (b : Bool) → eqb (length shelf) shelfWords ≡ b → (o : Row) → testRow (rowIn shelf) ≡ o
+        → Behind job (cond b (onRow o (fetchReply (layoutIn shelf) job room shelf) (λ place. refusal 22 place)) (refusal 13 shelfWords))
+    go true e Right f m = whole-behind (layoutIn shelf) (rowed-lawful (rowIn shelf) f) job room shelf (eqb-true (length shelf) shelfWords e) m
+    go true e (Wrong place) f m = absurd (omega (arith, m))
+    go false e o f m = absurd (omega (arith, m))
 
 -- ---- the words that C gets
-pub fetch-told : (shelf job out answered left : List ℕ) → said base shelf (fetch job (length out)) .answer .number ≡ 0
-    → answered ≡ answerWords (said base shelf (fetch job (length out)) .answer) → left ≡ overwritten out (said base shelf (fetch job (length out)) .values)
+pub fetch-told : (shelf job out answered left : List ℕ) → said shelf (own (fetch job (length out))) .answer .number ≡ 0
+    → answered ≡ answerWords (said shelf (own (fetch job (length out))) .answer) → left ≡ overwritten out (said shelf (own (fetch job (length out))) .values)
     → ToldFetched job answered left
 fetch-told shelf job out answered left n w l =
-    let r = said base shelf (fetch job (length out)) in
+    let r = said shelf (own (fetch job (length out))) in
     let g = any-behind shelf job (length out) n in
     let h = g .handed in
     record {

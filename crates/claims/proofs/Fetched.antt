@@ -21,21 +21,12 @@ use Rattle.measure.specs.Check.{onRead, proposalVerdict, checkOf}
 use Rattle.checked.specs.Answers.{Reply, accepted}
 use Rattle.checked.specs.Checked.{Checked, checkedOf, valuesOf}
 use Rattle.shelf.specs.Fetched.{handed, sameCounts, onJob}
-use Rattle.shelf.specs.declared.Row.{Row}
-use Rattle.shelf.specs.declared.Row.the-variants.{Right, Wrong}
-use Rattle.shelf.specs.Counts.{countIn, testRow, onRow}
-use Rattle.shelf.specs.Shelf.{rowIn}
+use Rattle.counts.specs.declared.Row.{Row}
+use Rattle.counts.specs.declared.Row.the-variants.{Right, Wrong}
+use Rattle.counts.specs.Counts.{countIn, testRow, onRow, rowIn}
 use Rattle.shelf.specs.Calls.{Own, Call, keep, fetch, forget, own, clear, said}
 use Rattle.shelf.proofs.Picked.{and-left, and-right}
-<<<<<<< ours
-use Rattle.shelf.proofs.Spans.{Lawful}
 use Rattle.checked.proofs.Sound.{accepted-read, values-count, multipliers-count}
-||||||| base
-use Rattle.shelf.proofs.Spans.{Lawful}
-use Rattle.shelf.proofs.Sound.{accepted-read, values-count, multipliers-count}
-=======
-use Rattle.shelf.proofs.Sound.{accepted-read, values-count, multipliers-count}
->>>>>>> theirs
 use Rattle.claims.specs.Read.{jobIn, Reads}
 use Rattle.claims.specs.Lists.{Table, tableFrom, tableFor, isOf, fetched, kept, removed, Lists, onList, keptLists, listsAfter, Kept, emptied, keptAfter}
 use Rattle.claims.specs.LastKept.{ClearedWith, shelfAfter, allAfter, held}
@@ -90,43 +81,17 @@ module _ (P : (society : ℕ) → Table → Type 0) where
   each-all (call ∷ calls) new k a = each-all calls (λ job proposal sent e. new job proposal (inr sent) e) (keptAfter k call) (each-after call calls new k a)
 
 -- ---- where a table came from
-<<<<<<< ours
 pub record Came (calls : List Call) (society : ℕ) (t : Table) : Type 0 where
   pub job : List ℕ
   pub proposal : List ℕ
-  pub sent : Sent (keep job proposal) calls
+  pub sent : Sent (own (keep job proposal)) calls
   pub yes : accepted (checkedOf job proposal .verdict) ≡ true
   pub its-society : checkedOf job proposal .society ≡ society
   pub is : t ≡ tableFrom (checkedOf job proposal)
 
-pub came : (count : ℕ → ℕ) (calls : List Call) (society : ℕ) → All (Came calls society) (held count calls society)
-came count calls society =
-    each-all (Came calls) count calls (λ job proposal sent e. record { job = job; proposal = proposal; sent = sent; yes = e; its-society = refl; is = refl }) nothing (λ s. tt) society
-||||||| base
-record Came (calls : List Call) (society : ℕ) (t : Table) : Type 0 where
-  job : List ℕ
-  proposal : List ℕ
-  sent : Sent (keep job proposal) calls
-  yes : accepted (checkedOf job proposal .verdict) ≡ true
-  its-society : checkedOf job proposal .society ≡ society
-  is : t ≡ tableFrom (checkedOf job proposal)
-
-came : (count : ℕ → ℕ) (calls : List Call) (society : ℕ) → All (Came calls society) (held count calls society)
-came count calls society =
-    each-all (Came calls) count calls (λ job proposal sent e. record { job = job; proposal = proposal; sent = sent; yes = e; its-society = refl; is = refl }) nothing (λ s. tt) society
-=======
-record Came (calls : List Call) (society : ℕ) (t : Table) : Type 0 where
-  job : List ℕ
-  proposal : List ℕ
-  sent : Sent (own (keep job proposal)) calls
-  yes : accepted (checkedOf job proposal .verdict) ≡ true
-  its-society : checkedOf job proposal .society ≡ society
-  is : t ≡ tableFrom (checkedOf job proposal)
-
-came : (counts : List ℕ) (calls : List Call) (society : ℕ) → All (Came calls society) (held counts calls society)
+pub came : (counts : List ℕ) (calls : List Call) (society : ℕ) → All (Came calls society) (held counts calls society)
 came counts calls society =
     each-all (Came calls) calls (λ job proposal sent e. record { job = job; proposal = proposal; sent = sent; yes = e; its-society = refl; is = refl }) (emptied counts) (λ s. tt) society
->>>>>>> theirs
 
 -- a fetch that does not miss gives one of them
 pub record Gives (P : Table → Type 0) (j : Job) (room : ℕ) (r : Reply) : Type 0 where
@@ -196,39 +161,6 @@ behind calls job room reads t k e n =
     subst (λ (x : Reply). IsAccepted calls job x) (sym r)
     (by-verdict calls job room reads old proposal (k .yes) (k .sent) (k .its-society) en ec el (checkOf job proposal) refl (sym (ap (λ (x : Reply). x .answer .number) r) ∙ n))
 
-<<<<<<< ours
-module _ (l : Layout) (ok : Lawful l) where
-  -- for any lawful layout
-  pub fetched-of : (calls : List Call) (job : List ℕ) (room : ℕ) → said l (shelfAfter l (cleared l) calls) (fetch job room) .answer .number ≡ 0
-      → IsAccepted calls job (said l (shelfAfter l (cleared l) calls) (fetch job room))
-  fetched-of calls job room n =
-      let r = sim-said l ok (fetch job room) (shelfAfter l (cleared l) calls) (listsAfterAll (l .count) nothing calls) (sim-all l ok calls (cleared l) nothing (sim-cleared l ok)) in
-      subst (λ (x : Reply). IsAccepted calls job x) (sym r) (go (readJob job .outcome) refl (sym (ap (λ (x : Reply). x .answer .number) r) ∙ n))
-    where
-      go : (o : Outcome) → readJob job .outcome ≡ o → onJob o (fetched (jobIn job) room (held (l .count) calls (jobIn job .society))) .answer .number ≡ 0 → IsAccepted calls job (onJob o (fetched (jobIn job) room (held (l .count) calls (jobIn job .society))))
-      go (Done k) e m =
-          let j = jobIn job in
-          let ts = held (l .count) calls (j .society) in
-          let g = fetched-gives (Came calls (j .society)) j room ts (came (l .count) calls (j .society)) (λ z. omega (arith, m, z)) in
-          subst (λ (x : Reply). IsAccepted calls job x) (sym (g .is)) (behind calls job room (k, e) (g .table) (g .holds) (g .its-job) (sym (ap (λ (x : Reply). x .answer .number) (g .is)) ∙ m))
-      go (Refuses number place) e m = absurd (omega (arith, m, no-other-refusal job [] number place (ap (λ (o : Outcome). onRead o (proposalVerdict (jobIn job) [])) e) .0))
-||||||| base
-module _ (l : Layout) (ok : Lawful l) where
-  -- for any lawful layout
-  pub fetched-of : (calls : List Call) (job : List ℕ) (room : ℕ) → said l (shelfAfter l (cleared l) calls) (fetch job room) .answer .number ≡ 0
-      → IsAccepted calls job (said l (shelfAfter l (cleared l) calls) (fetch job room))
-  fetched-of calls job room n =
-      let r = sim-said l ok (fetch job room) (shelfAfter l (cleared l) calls) (listsAfterAll (l .count) nothing calls) (sim-all l ok calls (cleared l) nothing (sim-cleared l ok)) in
-      subst (λ (x : Reply). IsAccepted calls job x) (sym r) (go (readJob job .outcome) refl (sym (ap (λ (x : Reply). x .answer .number) r) ∙ n))
-    where
-      go : (o : Outcome) → readJob job .outcome ≡ o → onJob o (fetched (jobIn job) room (held (l .count) calls (jobIn job .society))) .answer .number ≡ 0 → IsAccepted calls job (onJob o (fetched (jobIn job) room (held (l .count) calls (jobIn job .society))))
-      go (Done k) e m =
-          let j = jobIn job in
-          let ts = held (l .count) calls (j .society) in
-          let g = fetched-gives (Came calls (j .society)) j room ts (came (l .count) calls (j .society)) m in
-          subst (λ (x : Reply). IsAccepted calls job x) (sym (g .is)) (behind calls job room (k, e) (g .table) (g .holds) (g .its-job) (sym (ap (λ (x : Reply). x .answer .number) (g .is)) ∙ m))
-      go (Refuses number place) e m = absurd (omega (arith, m, no-other-refusal job [] number place (ap (λ (o : Outcome). onRead o (proposalVerdict (jobIn job) [])) e) .0))
-=======
 pub fetched-of : (counts shelf : List ℕ) → ClearedWith counts shelf → (calls : List Call) (job : List ℕ) (room : ℕ) → said (shelfAfter shelf calls) (own (fetch job room)) .answer .number ≡ 0
     → IsAccepted calls job (said (shelfAfter shelf calls) (own (fetch job room)))
 fetched-of counts shelf from calls job room n =
@@ -240,7 +172,6 @@ fetched-of counts shelf from calls job room n =
     go (Done k) e m =
         let j = jobIn job in
         let ts = held counts calls (j .society) in
-        let g = fetched-gives (Came calls (j .society)) j room ts (came counts calls (j .society)) m in
+        let g = fetched-gives (Came calls (j .society)) j room ts (came counts calls (j .society)) (λ z. omega (arith, m, z)) in
         subst (λ (x : Reply). IsAccepted calls job x) (sym (g .is)) (behind calls job room (k, e) (g .table) (g .holds) (g .its-job) (sym (ap (λ (x : Reply). x .answer .number) (g .is)) ∙ m))
     go (Refuses number place) e m = absurd (omega (arith, m, no-other-refusal job [] number place (ap (λ (o : Outcome). onRead o (proposalVerdict (jobIn job) [])) e) .0))
->>>>>>> theirs

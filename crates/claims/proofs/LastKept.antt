@@ -19,26 +19,15 @@ use Rattle.measure.specs.Check.{checkOf}
 use Rattle.checked.specs.Answers.{Reply, refusal, accepted, answerOf}
 use Rattle.checked.specs.Checked.{Checked, checkedOf, valuesOf, multipliersOf}
 use Rattle.shelf.specs.Fetched.{handed, onJob}
-use Rattle.shelf.specs.declared.Row.{Row}
-use Rattle.shelf.specs.declared.Row.the-variants.{Right, Wrong}
-use Rattle.shelf.specs.Counts.{countIn, testRow, onRow}
-use Rattle.shelf.specs.Shelf.{rowIn}
+use Rattle.counts.specs.declared.Row.{Row}
+use Rattle.counts.specs.declared.Row.the-variants.{Right, Wrong}
+use Rattle.counts.specs.Counts.{countIn, testRow, onRow, rowIn}
 use Rattle.shelf.specs.Calls.{Own, Call, keep, fetch, forget, own, clear, after, said}
 use Rattle.claims.specs.Lists.{Table, tableFrom, isOf, holds, replaced, removed, youngest, kept, tableFor, fetched, Lists, onList, keptLists, listsAfter, Kept, emptied, keptAfter}
 use Rattle.claims.specs.LastKept.{ClearedWith, isFor, lastBy, lastAfter, lastFrom, lastKept, shelfAfter, allAfter, held, given}
 use Rattle.claims.specs.Read.{jobIn, Reads}
-<<<<<<< ours
 use Rattle.checked.proofs.Sound.{accepted-read, values-count}
-use Rattle.shelf.proofs.Spans.{Lawful}
-use Rattle.claims.proofs.EightLists.{Sim, sim-after, sim-said, sim-cleared}
-||||||| base
-use Rattle.shelf.proofs.Sound.{accepted-read, values-count}
-use Rattle.shelf.proofs.Spans.{Lawful}
-use Rattle.claims.proofs.EightLists.{Sim, sim-after, sim-said, sim-cleared}
-=======
-use Rattle.shelf.proofs.Sound.{accepted-read, values-count}
 use Rattle.claims.proofs.EightLists.{Stands, stands-after, stands-said, from-cleared}
->>>>>>> theirs
 use Rattle.claims.proofs.AsChecked.{fetched-checked}
 
 clash : {A : Type 0} → false ≡ true → A
@@ -337,7 +326,6 @@ accepted-given room job vs ms (Accepted F G) y h =
     ap {B = Reply} (λ (b : Bool). cond b (record { answer = record { number = 0; place = length vs; loss = natAbs F; gap = natAbs G }; values = vs }) (refusal 13 (length vs))) (le-leb (length vs) room h)
 accepted-given room job vs ms (Refused number place) y h = clash y
 
-<<<<<<< ours
 pub same-given : (job proposal : List ℕ) → accepted (checkOf job proposal) ≡ true → (room : ℕ) → jobIn job .cells ≤ room
     → tableFor (jobIn job) room (tableFrom (checkedOf job proposal)) ≡ given (tableFrom (checkedOf job proposal))
 unfolding checkedOf
@@ -345,30 +333,6 @@ same-given job proposal y room r =
     let packed = accepted-read job proposal y in
     fetched-checked job proposal y job (packed .job-done) refl refl room
     ∙ accepted-given room (jobIn job .number) (valuesOf (jobIn job) proposal) (multipliersOf (jobIn job) proposal) (checkOf job proposal) y (omega (arith, values-count job proposal packed))
-||||||| base
-module _ (l : Layout) (ok : Lawful l) where
-  pub same-of : (calls : List Call) (job proposal : List ℕ) (room : ℕ) → accepted (checkOf job proposal) ≡ true
-      → lastKept (jobIn job .society) (jobIn job .number) calls ≡ some (tableFrom (checkedOf job proposal))
-      → holds (jobIn job .number) (held (l .count) calls (jobIn job .society)) ≡ true → jobIn job .cells ≤ room
-      → said l (shelfAfter l (cleared l) calls) (fetch job room) ≡ given (tableFrom (checkedOf job proposal))
-  unfolding checkedOf
-  same-of calls job proposal room y e p r =
-      let packed = accepted-read job proposal y in
-      last-of l ok calls job room (packed .job-done) (tableFrom (checkedOf job proposal)) e p
-      ∙ fetched-checked job proposal y job (packed .job-done) refl refl room
-      ∙ accepted-given room (jobIn job .number) (valuesOf (jobIn job) proposal) (multipliersOf (jobIn job) proposal) (checkOf job proposal) y (omega (arith, values-count job proposal packed))
-=======
-pub same-of : (counts shelf : List ℕ) → ClearedWith counts shelf → (calls : List Call) (job proposal : List ℕ) (room : ℕ) → accepted (checkOf job proposal) ≡ true
-    → lastKept (jobIn job .society) (jobIn job .number) calls ≡ some (tableFrom (checkedOf job proposal))
-    → holds (jobIn job .number) (held counts calls (jobIn job .society)) ≡ true → jobIn job .cells ≤ room
-    → said (shelfAfter shelf calls) (own (fetch job room)) ≡ given (tableFrom (checkedOf job proposal))
-unfolding checkedOf
-same-of counts shelf from calls job proposal room y e p r =
-    let packed = accepted-read job proposal y in
-    last-of counts shelf from calls job room (packed .job-done) (tableFrom (checkedOf job proposal)) e p
-    ∙ fetched-checked job proposal y job (packed .job-done) refl refl room
-    ∙ accepted-given room (jobIn job .number) (valuesOf (jobIn job) proposal) (multipliersOf (jobIn job) proposal) (checkOf job proposal) y (omega (arith, values-count job proposal packed))
->>>>>>> theirs
 
 -- ---- and no more than that is held
 fetched-lacks : (j : Job) (room : ℕ) (ts : List Table) → holds (j .number) ts ≡ false → fetched j room ts ≡ refusal 12 0

@@ -20,13 +20,7 @@ pub mod NoNeighbour
 pub mod Rests
 pub mod Refusals
 pub mod Fetched
-<<<<<<< ours
 pub mod NeverSix
-pub mod Layouts
-||||||| base
-pub mod Layouts
-=======
->>>>>>> theirs
 pub mod ShelfPromises
 pub mod Along
 pub mod HousePromises

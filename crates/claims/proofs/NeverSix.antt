@@ -22,16 +22,13 @@ use Rattle.checked.specs.Answers.{Reply, refusal, accepted}
 use Rattle.checked.specs.Checked.{checkedOf}
 use Rattle.checked.proofs.Sound.{accepted-read}
 use Rattle.shelf.specs.Fetched.{handed, sameCounts, onJob}
-use Rattle.shelf.specs.Shelf.{Layout, cleared}
-use Rattle.shelf.specs.Calls.{Call, fetch, said}
+use Rattle.shelf.specs.Calls.{Call, fetch, own, said}
 use Rattle.shelf.proofs.Picked.{and-left, and-right}
-use Rattle.shelf.proofs.Spans.{Lawful}
 use Rattle.claims.specs.Read.{jobIn, proposalIn, Reads}
-use Rattle.claims.specs.Lists.{Table, tableFrom, tableFor, fetched, nothing}
-use Rattle.claims.specs.LastKept.{shelfAfter, listsAfterAll, held}
+use Rattle.claims.specs.Lists.{Table, tableFrom, tableFor, fetched}
+use Rattle.claims.specs.LastKept.{ClearedWith, shelfAfter, held}
 use Rattle.claims.proofs.Accepted.{proposal-refused-exactly}
-use Rattle.claims.proofs.EightLists.{sim-said, sim-cleared}
-use Rattle.claims.proofs.LastKept.{sim-all}
+use Rattle.claims.proofs.LastKept.{fetch-said}
 use Rattle.claims.proofs.AsChecked.{same-proposal, fetched-by-counts}
 use Rattle.claims.proofs.Fetched.{Came, came, Gives, fetched-gives}
 
@@ -72,21 +69,18 @@ module _ (job : List ℕ) (reads : Reads (readJob job .outcome)) (room : ℕ) (o
       by-counts (sameCounts (jobIn job) (jobIn old .cells) (jobIn old .links)) refl
       (sym (ap (λ (r : Reply). r .answer .number) (fetched-by-counts old proposal yes job reads room)) ∙ n)
 
-module _ (l : Layout) (ok : Lawful l) where
-  -- for any lawful layout
-  pub never-six-of : (calls : List Call) (job : List ℕ) (room : ℕ) → NotSix (said l (shelfAfter l (cleared l) calls) (fetch job room))
-  unfolding checkedOf
-  never-six-of calls job room n =
-      let r = sim-said l ok (fetch job room) (shelfAfter l (cleared l) calls) (listsAfterAll (l .count) nothing calls) (sim-all l ok calls (cleared l) nothing (sim-cleared l ok)) in
-      go (readJob job .outcome) refl (job-read-near job) (sym (ap (λ (x : Reply). x .answer .number) r) ∙ n)
-    where
-      ts : List Table
-      ts = held (l .count) calls (jobIn job .society)
+pub never-six-of : (counts shelf : List ℕ) → ClearedWith counts shelf → (calls : List Call) (job : List ℕ) (room : ℕ) → NotSix (said (shelfAfter shelf calls) (own (fetch job room)))
+unfolding checkedOf
+never-six-of counts shelf from calls job room n =
+    go (readJob job .outcome) refl (job-read-near job) (sym (ap (λ (x : Reply). x .answer .number) (fetch-said counts shelf from calls job room)) ∙ n)
+  where
+    ts : List Table
+    ts = held counts calls (jobIn job .society)
 
-      go : (o : Outcome) → readJob job .outcome ≡ o → Near 20920 o → NotSix (onJob o (fetched (jobIn job) room ts))
-      go (Done k) e h m =
-          let g = fetched-gives (Came calls (jobIn job .society)) (jobIn job) room ts (came (l .count) calls (jobIn job .society)) (λ z. omega (arith, m, z)) in
-          let t = g .holds in
-          let is : fetched (jobIn job) room ts ≡ tableFor (jobIn job) room (tableFrom (checkedOf (t .job) (t .proposal))) = g .is ∙ ap {B = Reply} (tableFor (jobIn job) room) (t .is) in
-          table-not job (k, e) room (t .job) (t .proposal) (t .yes) (sym (ap (λ (x : Reply). x .answer .number) is) ∙ m)
-      go (Refuses number place) e h m = omega (arith, m, h .1)
+    go : (o : Outcome) → readJob job .outcome ≡ o → Near 20920 o → NotSix (onJob o (fetched (jobIn job) room ts))
+    go (Done k) e h m =
+        let g = fetched-gives (Came calls (jobIn job .society)) (jobIn job) room ts (came counts calls (jobIn job .society)) (λ z. omega (arith, m, z)) in
+        let t = g .holds in
+        let is : fetched (jobIn job) room ts ≡ tableFor (jobIn job) room (tableFrom (checkedOf (t .job) (t .proposal))) = g .is ∙ ap {B = Reply} (tableFor (jobIn job) room) (t .is) in
+        table-not job (k, e) room (t .job) (t .proposal) (t .yes) (sym (ap (λ (x : Reply). x .answer .number) is) ∙ m)
+    go (Refuses number place) e h m = omega (arith, m, h .1)

@@ -16,42 +16,20 @@ use Rattle.packs.specs.declared.Outcome.the-variants.{Done, Refused as Refuses}
 use Rattle.jobs.specs.Words.{jobOf}
 use Rattle.jobs.specs.Packs.{readJob}
 use Rattle.jobs.proofs.Readings.{read-jobs-allowed}
-<<<<<<< ours
-use Rattle.slots.specs.Slots.{keptIn, forgotIn}
-use Rattle.checked.specs.Answers.{Reply, accepted, answerOf}
-use Rattle.shelf.specs.Shelf.{forgetReply, Layout, slotFrom, spanOf, sizeOf, onSociety, fromSociety, keptShelf, fetchFrom, fetchReply, forgotShelf, forgotReply}
-||||||| base
-use Rattle.shelf.specs.Slots.{Reply, keptIn, forgotIn, forgetReply}
-=======
-use Rattle.shelf.specs.declared.Row.{Row}
-use Rattle.shelf.specs.declared.Row.the-variants.{Right, Wrong}
-use Rattle.shelf.specs.Counts.{countIn, testRow}
-use Rattle.shelf.specs.Slots.{Reply, refusal, keptIn, forgotIn, forgetReply}
-use Rattle.shelf.specs.Checked.{Checked, checkedOf, accepted}
->>>>>>> theirs
-use Rattle.shelf.specs.Fetched.{fetchIn, onJob}
-<<<<<<< ours
+use Rattle.slots.specs.Slots.{slotWords, keptIn, forgotIn}
+use Rattle.counts.specs.declared.Row.{Row}
+use Rattle.counts.specs.declared.Row.the-variants.{Right, Wrong}
+use Rattle.counts.specs.Counts.{shelfWords, countIn, testRow, rowIn, Ready, cleared}
+use Rattle.counts.proofs.Tested.{right-eight}
+use Rattle.counts.proofs.Cleared.{cleared-row, cleared-length, cleared-span}
+use Rattle.checked.specs.Answers.{Reply, refusal, accepted}
 use Rattle.checked.specs.Checked.{Checked, checkedOf}
-use Rattle.shelf.specs.Calls.{Call, keep, fetch, forget, clear, wholeAfter, wholeSaid, after, said, firstOf, named, is, isNot, names, namesOther}
-use Rattle.slots.proofs.Steps.{slot-length}
-use Rattle.slots.proofs.Sizes.{kept-length, forgot-length}
-use Rattle.shelf.proofs.Spans.{Lawful, span-length, society-length, own, other, from-same, cleared-length}
-use Rattle.shelf.proofs.Lengths.{on-whole, from-whole, on-other, from-other}
-||||||| base
-use Rattle.shelf.specs.Checked.{Checked, checkedOf, accepted, answerOf}
-use Rattle.shelf.specs.Shelf.{Layout, slotFrom, spanOf, sizeOf, onSociety, fromSociety, keptShelf, fetchFrom, fetchReply, forgotShelf, forgotReply}
-use Rattle.shelf.specs.Calls.{Call, keep, fetch, forget, clear, wholeAfter, wholeSaid, after, said, firstOf, named, is, isNot, names, namesOther}
-use Rattle.shelf.proofs.Moves.{slot-length}
-use Rattle.shelf.proofs.Sizes.{kept-length, forgot-length}
-use Rattle.shelf.proofs.Spans.{Lawful, span-length, society-length, own, other, from-same, cleared-length}
-use Rattle.shelf.proofs.Lengths.{on-whole, from-whole, on-other, from-other}
-=======
-use Rattle.shelf.specs.Shelf.{Ready, Layout, slotWords, shelfWords, rowed, rowIn, layoutIn, slotFrom, spanOf, spanIn, sizeOf, onSociety, fromSociety, keptShelf, fetchFrom, fetchReply, forgotShelf, forgotReply, cleared}
+use Rattle.shelf.specs.Fetched.{fetchIn, onJob}
+use Rattle.shelf.specs.Shelf.{forgetReply, Layout, rowed, layoutIn, slotFrom, spanOf, spanIn, sizeOf, onSociety, fromSociety, keptShelf, fetchFrom, fetchReply, forgotShelf, forgotReply}
 use Rattle.shelf.specs.Calls.{Own, Call, keep, fetch, forget, own, clear, laidAfter, laidSaid, wholeAfter, wholeSaid, after, said, firstOf, namedBy, named, is, isNot, names, namesOther}
 use Rattle.shelf.proofs.Spans.{Lawful, own as its-own, other}
-use Rattle.shelf.proofs.Rows.{rowed-lawful, right-eight, cleared-row, cleared-length, cleared-span}
+use Rattle.shelf.proofs.Rows.{rowed-lawful}
 use Rattle.shelf.proofs.Lengths.{on-other, from-other, said-right, said-wrong, after-right, after-wrong, clear-right, clear-wrong}
->>>>>>> theirs
 use Rattle.shelf.proofs.Sound.{Sound, accepted-sound, accepted-named}
 use Rattle.claims.specs.Heard.{heard, without, sent, onlyOwn}
 use Rattle.claims.specs.LastKept.{ClearedWith}
@@ -116,8 +94,8 @@ module _ (rx ry : List ℕ) (ex : testRow rx ≡ Right) (ey : testRow ry ≡ Rig
   oky : Lawful ly'
   oky = rowed-lawful ry ey
 
-  counts : (t : ℕ) → t ≡ s → countIn rx t ≡ countIn ry t
-  counts t q = subst (λ (r : ℕ). countIn rx r ≡ countIn ry r) (sym q) ec
+  count-same : (t : ℕ) → t ≡ s → countIn rx t ≡ countIn ry t
+  count-same t q = subst (λ (r : ℕ). countIn rx r ≡ countIn ry r) (sym q) ec
 
   spans : (t : ℕ) → t ≡ s → t ≤ 7 → spanOf lx' t xs ≡ spanOf ly' t ys
   spans t q h = subst (λ (r : ℕ). spanOf lx' r xs ≡ spanOf ly' r ys) (sym q) (a (subst (λ (r : ℕ). r ≤ 7) q h))
@@ -127,7 +105,7 @@ module _ (rx ry : List ℕ) (ex : testRow rx ≡ Right) (ey : testRow ry ≡ Rig
   on-same f t q sx sy m =
       let h : t ≤ 7 = omega arith in
       subst (λ (r : ℕ). spanOf lx' r (onSociety lx' t (f (countIn rx t)) xs) ≡ spanOf ly' r (onSociety ly' t (f (countIn ry t)) ys)) q
-      (its-own lx' okx t (f (countIn rx t)) xs lx sx h ∙ ap₂ f (counts t q) (spans t q h) ∙ sym (its-own ly' oky t (f (countIn ry t)) ys ly sy h))
+      (its-own lx' okx t (f (countIn rx t)) xs lx sx h ∙ ap₂ f (count-same t q) (spans t q h) ∙ sym (its-own ly' oky t (f (countIn ry t)) ys ly sy h))
 
   keep-same : (o : Checked) → (accepted (o .verdict) ≡ true → Sound o × (o .society ≡ s)) → s ≤ 7 → spanOf lx' s (keptShelf lx' o xs) ≡ spanOf ly' s (keptShelf ly' o ys)
   unfolding keptShelf
@@ -149,7 +127,7 @@ module _ (rx ry : List ℕ) (ex : testRow rx ≡ Right) (ey : testRow ry ≡ Rig
   from-own t f q = go (leb t 7) refl
     where
       go : (b : Bool) → leb t 7 ≡ b → cond b (f (countIn rx t) (spanOf lx' t xs)) (refusal 11 0) ≡ cond b (f (countIn ry t) (spanOf ly' t ys)) (refusal 11 0)
-      go true e = ap₂ {C = Reply} f (counts t q) (spans t q (leb-true t 7 e))
+      go true e = ap₂ {C = Reply} f (count-same t q) (spans t q (leb-true t 7 e))
       go false e = refl
 
   laid-own : (call : Own) → isNot s (namedBy call) ≡ false → s ≤ 7 → spanOf lx' s (laidAfter lx' xs call) ≡ spanOf ly' s (laidAfter ly' ys call)
@@ -171,7 +149,7 @@ module _ (rx ry : List ℕ) (ex : testRow rx ≡ Right) (ey : testRow ry ≡ Rig
       go (Done k) e =
           let j = jobOf (readJob job .words) in
           let q = named-own (readJob job .words) n in
-          ap₂ {C = Reply} (λ (c : ℕ) (x : List ℕ). fetchIn slotWords c j room x) (counts (j .society) q) (spans (j .society) q (read-jobs-allowed job k e .society))
+          ap₂ {C = Reply} (λ (c : ℕ) (x : List ℕ). fetchIn slotWords c j room x) (count-same (j .society) q) (spans (j .society) q (read-jobs-allowed job k e .society))
       go (Refuses number place) e = refl
   laid-told (forget t job) n = from-own t (λ c x. forgetReply slotWords c job x) (eqb-true t s n)
 
@@ -234,10 +212,10 @@ pub alone-call : (society : ℕ) → society ≤ 7 → (call : Own) → names so
 alone-call s m call n xs ys x y ec a = (told-ready s xs ys x y ec (λ h. a) call n, span-ready s xs ys x y ec (λ h. a) call (not-other s (namedBy call) n) m)
 
 -- ---- two shelves of one length with one row and one span, whatever they are
-record Alike (s : ℕ) (xs ys : List ℕ) : Type 0 where
-  long : length xs ≡ length ys
-  row : rowIn xs ≡ rowIn ys
-  span : s ≤ 7 → spanIn s xs ≡ spanIn s ys
+pub record Alike (s : ℕ) (xs ys : List ℕ) : Type 0 where
+  pub long : length xs ≡ length ys
+  pub row : rowIn xs ≡ rowIn ys
+  pub span : s ≤ 7 → spanIn s xs ≡ spanIn s ys
 
 module _ (s : ℕ) (xs ys : List ℕ) (k : Alike s xs ys) where
   other-alike : (call : Own) → is s (namedBy call) ≡ false → Alike s (after xs (own call)) ys
@@ -293,8 +271,8 @@ module _ (s : ℕ) (xs ys : List ℕ) (k : Alike s xs ys) where
             long = cleared-length row eight f xs len ∙ sym (cleared-length row eight f ys (also len));
             row = cx ∙ sym cy;
             span = λ h.
-                ap (λ (r : List ℕ). spanOf (rowed r) s (cleared row xs)) cx ∙ cleared-span row eight f xs len s h
-                ∙ sym (ap (λ (r : List ℕ). spanOf (rowed r) s (cleared row ys)) cy ∙ cleared-span row eight f ys (also len) s h);
+                ap (λ (r : List ℕ). spanOf (rowed r) s (cleared row xs)) cx ∙ cleared-span row eight f xs len s (omega arith)
+                ∙ sym (ap (λ (r : List ℕ). spanOf (rowed r) s (cleared row ys)) cy ∙ cleared-span row eight f ys (also len) s (omega arith));
           }))
       go true e (Wrong place) f =
           let len = eqb-true (length xs) shelfWords e in
@@ -305,15 +283,15 @@ module _ (s : ℕ) (xs ys : List ℕ) (k : Alike s xs ys) where
           subst (λ (zs : List ℕ). Alike s zs (after ys (clear counts))) (on-other xs n (λ z. wholeAfter z (clear counts)))
           (subst (λ (zs : List ℕ). Alike s xs zs) (on-other ys (also-not n) (λ z. wholeAfter z (clear counts))) k)
 
-  stays-alike : (call : Call) → namesOther s call ≡ false → Alike s (after xs call) (after ys call)
+  pub stays-alike : (call : Call) → namesOther s call ≡ false → Alike s (after xs call) (after ys call)
   stays-alike (own call) n = own-alike call n
   stays-alike (clear counts) n = clear-alike counts
 
-  left-alike : (call : Call) → namesOther s call ≡ true → Alike s (after xs call) ys
+  pub left-alike : (call : Call) → namesOther s call ≡ true → Alike s (after xs call) ys
   left-alike (own call) n = other-alike call (not-this s (namedBy call) n)
   left-alike (clear counts) n = absurd (true≢false (sym n))
 
-  told-alike : (call : Call) → names s call ≡ true → said xs call ≡ said ys call
+  pub told-alike : (call : Call) → names s call ≡ true → said xs call ≡ said ys call
   told-alike (own call) n = own-told call n
   told-alike (clear counts) n = absurd (true≢false (sym n))
 
@@ -392,7 +370,7 @@ fresh s m counts shelf from =
     subst (Fresh s counts) (clear-right old (from .long) counts e .1 ∙ sym (from .is)) (record {
       ready = record { long = cleared-length row eight e old (from .long); row = ap {B = Row} testRow front ∙ e };
       count = ap (λ (r : List ℕ). countIn r s) front;
-      span = ap (λ (r : List ℕ). spanOf (rowed r) s (cleared row old)) front ∙ cleared-span row eight e old (from .long) s m;
+      span = ap (λ (r : List ℕ). spanOf (rowed r) s (cleared row old)) front ∙ cleared-span row eight e old (from .long) s (omega arith);
     })
 
 pub own-decide : (society : ℕ) → society ≤ 7 → (counts others xs ys : List ℕ) → ClearedWith counts xs → ClearedWith others ys → countIn (rowIn counts) society ≡ countIn (rowIn others) society

@@ -21,24 +21,13 @@ use Rattle.slots.specs.Slots.{lowest, hasJob, atSlot, droppedSlot, forgotIn}
 use Rattle.checked.specs.Answers.{Reply, refusal, done, accepted, answerOf}
 use Rattle.shelf.specs.Shelf.{forgetReply, Layout, sizeOf, slotFrom, spanOf, onPart, onSociety, fromSociety, keptOn, keptShelf, keepReply, fetchFrom, fetchReply, forgotShelf, forgotReply}
 use Rattle.shelf.specs.Fetched.{keptVerdict, handed, sameCounts, fetchTable, keptCells, keptLinks, keptValues, keptMultipliers, fetchAt, fetchIn, onJob}
-<<<<<<< ours
 use Rattle.checked.specs.Checked.{Checked, checkedOf}
-use Rattle.shelf.specs.Calls.{Call, keep, fetch, forget, clear, wholeAfter, wholeSaid, after, said}
-use Rattle.shelf.proofs.Lengths.{on-whole, from-whole, on-other, from-other}
-||||||| base
-use Rattle.shelf.specs.Checked.{Checked, checkedOf, accepted, answerOf}
-use Rattle.shelf.specs.Shelf.{Layout, sizeOf, slotFrom, spanOf, onPart, onSociety, fromSociety, keptOn, keptShelf, keepReply, fetchFrom, fetchReply, forgotShelf, forgotReply}
-use Rattle.shelf.specs.Calls.{Call, keep, fetch, forget, clear, wholeAfter, wholeSaid, after, said}
-use Rattle.shelf.proofs.Lengths.{on-whole, from-whole, on-other, from-other}
-=======
-use Rattle.shelf.specs.Checked.{Checked, checkedOf, accepted, answerOf}
-use Rattle.shelf.specs.Shelf.{Layout, sizeOf, slotFrom, spanOf, onPart, onSociety, fromSociety, keptOn, keptShelf, keepReply, fetchFrom, fetchReply, forgotShelf, forgotReply, shelfWords, rowIn, layoutIn, cleared}
+use Rattle.counts.specs.declared.Row.{Row}
+use Rattle.counts.specs.declared.Row.the-variants.{Right, Wrong}
+use Rattle.counts.specs.Counts.{shelfWords, testRow, onRow, rowIn, cleared}
+use Rattle.shelf.specs.Shelf.{layoutIn}
 use Rattle.shelf.specs.Calls.{Own, Call, keep, fetch, forget, own, clear, laidAfter, laidSaid, wholeAfter, wholeSaid, after, said}
-use Rattle.shelf.specs.declared.Row.{Row}
-use Rattle.shelf.specs.declared.Row.the-variants.{Right, Wrong}
-use Rattle.shelf.specs.Counts.{testRow, onRow}
 use Rattle.shelf.proofs.Lengths.{on-whole, from-whole, on-other, from-other, said-wrong, after-wrong, clear-wrong}
->>>>>>> theirs
 use Rattle.claims.specs.ShelfPromises.{Refused, GivesNothing}
 
 -- ---- a span's calls

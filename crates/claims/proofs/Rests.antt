@@ -8,17 +8,21 @@ use lib.Dec.{leb, ltb}
 use lib.ListN.{length, take, drop, replicate, length-append, length-drop, length-replicate}
 use lib.Seq.{take-all, drop-at}
 use borrow.Author.Tests.{leb-true, ltb-true, ltb-false}
-use Rattle.shelf.specs.declared.Row.the-variants.{Right}
-use Rattle.shelf.specs.Counts.{societies, countIn, slotsOf, testRow}
-use Rattle.shelf.specs.Checked.{Checked, checkedOf, accepted}
-use Rattle.shelf.specs.Shelf.{Ready, Layout, slotWords, shelfWords, rowed, rowIn, sizeOf, spanOf, onPart, onSociety, keptShelf, forgotShelf, cleared}
+use Rattle.slots.specs.Slots.{slotWords}
+use Rattle.counts.specs.declared.Row.the-variants.{Right}
+use Rattle.counts.specs.Counts.{societies, shelfWords, countIn, testRow, rowIn, startIn, restOf, Ready}
+use Rattle.counts.proofs.Below.{below-apart}
+use Rattle.counts.proofs.Tested.{right-eight}
+use Rattle.counts.proofs.Cleared.{cleared-rest}
+use Rattle.checked.specs.Answers.{accepted}
+use Rattle.checked.specs.Checked.{Checked, checkedOf}
+use Rattle.shelf.specs.Shelf.{Layout, rowed, sizeOf, spanOf, onPart, onSociety, keptShelf, forgotShelf}
 use Rattle.shelf.specs.Calls.{Own, keep, fetch, forget, own, clear, laidAfter, after}
 use Rattle.shelf.proofs.Parts.{on-after}
 use Rattle.shelf.proofs.Spans.{Lawful, society-length}
-use Rattle.shelf.proofs.Rows.{below-next, rowed-lawful, right-eight}
+use Rattle.shelf.proofs.Rows.{rowed-lawful}
 use Rattle.shelf.proofs.Lengths.{after-right, clear-right}
 use Rattle.shelf.proofs.Sound.{Sound, accepted-sound}
-use Rattle.claims.specs.ShelfPromises.{restOf}
 use Rattle.claims.proofs.Steps.{keepStep, forgetStep, kept-same, forgot-same}
 
 -- the words from b on, as a part that is long enough
@@ -34,20 +38,10 @@ module _ (row : List ℕ) (right : testRow row ≡ Right) where
 
   -- where the rest starts: every span ends before it
   abbrev behind : ℕ
-  behind = societies + slotWords * slotsOf row
-
-  last-end : l .start 7 + sizeOf l 7 ≤ behind
-  last-end = omega (arith, below-next (countIn row) 7)
+  behind = startIn row societies
 
   ends : (s : ℕ) → s ≤ 7 → l .start s + sizeOf l s ≤ behind
-  ends s h = go (ltb s 7) refl
-    where
-      go : (b : Bool) → ltb s 7 ≡ b → l .start s + sizeOf l s ≤ behind
-      go true e = omega (arith, ok .apart s 7 (ltb-true s 7 e) (omega arith), last-end)
-      go false e =
-          let k = ltb-false s 7 e in
-          let q : 7 ≡ s = omega arith in
-          subst (λ (t : ℕ). l .start t + sizeOf l t ≤ behind) q last-end
+  ends s h = omega (arith, below-apart (countIn row) s societies (omega arith))
 
   -- ---- what is done to a span
   module _ (s : ℕ) (f : List ℕ → List ℕ) (xs : List ℕ) (len : length xs ≡ shelfWords) (same : s ≤ 7 → length (f (spanOf l s xs)) ≡ sizeOf l s) where
@@ -79,15 +73,8 @@ module _ (row : List ℕ) (right : testRow row ≡ Right) where
   laid-rest (fetch job room) xs len = refl
   laid-rest (forget s job) xs len = rest-on s (forgetStep l ok s job) xs len (forgot-same l ok s job xs len)
 
-  cleared-rest : length row ≡ societies → (xs : List ℕ) → restOf row (cleared row xs) ≡ restOf row xs
-  unfolding cleared
-  cleared-rest eight xs =
-      let n = slotWords * slotsOf row in
-      let zeros : List ℕ = replicate n 0 in
-      ap (drop behind) (sym (append-assoc row zeros (drop behind xs))) ∙ drop-at (row ++ zeros) (drop behind xs) behind (length-append row zeros ∙ ap₂ _+_ eight (length-replicate {A = ℕ} n 0))
-
 pub rest-of : (shelf : List ℕ) → Ready shelf → (call : Own) → restOf (rowIn shelf) (after shelf (own call)) ≡ restOf (rowIn shelf) shelf
 rest-of shelf r call = ap (restOf (rowIn shelf)) (sym (after-right shelf (r .long) (r .row) call)) ∙ laid-rest (rowIn shelf) (r .row) call shelf (r .long)
 
 pub rest-cleared : (shelf counts : List ℕ) → length shelf ≡ shelfWords → testRow (rowIn counts) ≡ Right → restOf (rowIn counts) (after shelf (clear counts)) ≡ restOf (rowIn counts) shelf
-rest-cleared shelf counts len e = ap (restOf (rowIn counts)) (sym (clear-right shelf len counts e .1)) ∙ cleared-rest (rowIn counts) e (right-eight counts e) shelf
+rest-cleared shelf counts len e = ap (restOf (rowIn counts)) (sym (clear-right shelf len counts e .1)) ∙ cleared-rest (rowIn counts) (right-eight counts e) e shelf len

@@ -1,6 +1,6 @@
 -- What C sees of a sequence: each call's claim fixes what is seen and the shelf that is left, so a sequence is one run of `said` and `after`, in which a
 -- call without four words for its answer does nothing. What holds of one call on a shelf then holds all along.
-use Prim.Native.Nat.{ℕ, _≤_}
+use Prim.Native.Nat.{ℕ}
 use mathlib.Core.Path.{_≡_, refl, sym, ap, ap₂, _∙_, subst}
 use mathlib.Core.Bool.{Bool, true, false, cond}
 use mathlib.Core.List.{List, [], _∷_}
@@ -11,28 +11,34 @@ use Rattle.slots.specs.declared.Slot.{Slot}
 use Rattle.slots.specs.declared.Slot.the-variants.{At, Nowhere}
 use Rattle.slots.specs.Slots.{lowest, hasJob, atSlot}
 use Rattle.checked.specs.Answers.{Reply, refusal, done, overwritten}
-use Rattle.shelf.specs.Shelf.{forgetReply, Layout, base, spanOf, fromSociety, onWhole, fromWhole, keepReply, forgotReply, cleared}
+use Rattle.counts.specs.declared.Row.{Row}
+use Rattle.counts.specs.declared.Row.the-variants.{Right, Wrong}
+use Rattle.counts.specs.Counts.{shelfWords, testRow, onRow, rowIn, cleared}
+use Rattle.shelf.specs.Shelf.{forgetReply, Layout, layoutIn, spanOf, fromSociety, onWhole, fromWhole, keepReply, forgotReply}
 use Rattle.checked.specs.Checked.{checkedOf}
-use Rattle.shelf.specs.Calls.{Call, keep, fetch, forget, clear, named, names, namesOther, after, said}
-use Rattle.shelf.proofs.Spans.{Lawful}
-use Rattle.shelf.proofs.Lengths.{on-whole, from-whole}
+use Rattle.shelf.specs.Calls.{Call, keep, fetch, forget, own, clear, named, names, namesOther, after, said}
+use Rattle.shelf.proofs.Lengths.{clear-right}
 use Rattle.bench.specs.Answers.{hasFour, leftFor, Says}
-use Rattle.claims.specs.Lists.{Lists, nothing, listsAfter}
+use Rattle.claims.specs.Lists.{Kept, emptied, keptAfter}
 use Rattle.claims.specs.Seen.{Made, keeps, fetches, forgets, clears, callOf, answerLent, Seen, Makes, MakesAll, seenOf, listsLeft, listsSeen, withoutOthers, ownSeen}
-use Rattle.claims.proofs.EightLists.{Sim, sim-cleared, sim-after, sim-said}
-use Rattle.claims.proofs.NoNeighbour.{not-this, after-length, other-stays, own-after, own-said}
+use Rattle.claims.proofs.EightLists.{Stands, cleared-stands, stands-after, stands-said}
+use Rattle.claims.proofs.NoNeighbour.{not-this, Alike, stays-alike, left-alike, told-alike}
 
 -- ---- keep, forget and clear hand out no values
 abbrev NoValues : Reply → Type 0
 NoValues r = r .values ≡ []
 
-whole-none : (l : Layout) (f : List ℕ → Reply) (shelf : List ℕ) → NoValues (f shelf) → NoValues (fromWhole l f shelf)
+whole-none : (f : List ℕ → Reply) (shelf : List ℕ) → NoValues (f shelf) → NoValues (fromWhole f shelf)
 unfolding fromWhole
-whole-none l f shelf h = go (eqb (length shelf) (l .total))
+whole-none f shelf h = go (eqb (length shelf) shelfWords)
   where
-    go : (b : Bool) → NoValues (cond b (f shelf) (refusal 13 (l .total)))
+    go : (b : Bool) → NoValues (cond b (f shelf) (refusal 13 shelfWords))
     go true = h
     go false = refl
+
+row-none : (o : Row) (r : Reply) → NoValues r → NoValues (onRow o r (λ place. refusal 22 place))
+row-none Right r h = h
+row-none (Wrong place) r h = refl
 
 keep-none : (job proposal : List ℕ) → NoValues (keepReply (checkedOf job proposal))
 unfolding keepReply
@@ -57,33 +63,34 @@ forget-none l society job shelf = go (leb society 7)
     go false = refl
 
 -- ---- what a call's claim fixes
-abbrev leftOn : Layout → (shelf : List ℕ) → Made → List ℕ
-leftOn l shelf made = leftFor (answerLent made) shelf (after l shelf (callOf made))
+abbrev leftOn : (shelf : List ℕ) → Made → List ℕ
+leftOn shelf made = leftFor (answerLent made) shelf (after shelf (callOf made))
 
-record Fixed (l : Layout) (made : Made) (shelf : List ℕ) (seen : Seen) (left : List ℕ) : Type 0 where
-  seen-is : seen ≡ seenOf made (said l shelf (callOf made))
-  left-is : left ≡ leftOn l shelf made
+record Fixed (made : Made) (shelf : List ℕ) (seen : Seen) (left : List ℕ) : Type 0 where
+  seen-is : seen ≡ seenOf made (said shelf (callOf made))
+  left-is : left ≡ leftOn shelf made
 
 -- a fetch leaves the shelf
-fetch-leaves : (l : Layout) (job : List ℕ) (room : ℕ) (shelf answer : List ℕ) → leftFor answer shelf (after l shelf (fetch job room)) ≡ shelf
+fetch-leaves : (job : List ℕ) (room : ℕ) (shelf answer : List ℕ) → leftFor answer shelf (after shelf (own (fetch job room))) ≡ shelf
 unfolding onWhole
-fetch-leaves l job room shelf answer = go (hasFour answer) (eqb (length shelf) (l .total))
+fetch-leaves job room shelf answer = go (hasFour answer) (eqb (length shelf) shelfWords) (testRow (rowIn shelf))
   where
-    go : (b c : Bool) → (if b then cond c shelf shelf else shelf) ≡ shelf
-    go true true = refl
-    go true false = refl
-    go false c = refl
+    go : (b c : Bool) (o : Row) → (if b then cond c (onRow o shelf (λ place. shelf)) shelf else shelf) ≡ shelf
+    go true true Right = refl
+    go true true (Wrong place) = refl
+    go true false o = refl
+    go false c o = refl
 
-fetch-fixes : (job out answer shelf : List ℕ) (seen : Seen) (left : List ℕ) → Makes (fetches job out answer) shelf seen left → Fixed base (fetches job out answer) shelf seen left
+fetch-fixes : (job out answer shelf : List ℕ) (seen : Seen) (left : List ℕ) → Makes (fetches job out answer) shelf seen left → Fixed (fetches job out answer) shelf seen left
 fetch-fixes job out answer shelf seen left m = record {
   seen-is = λ i. record { returned = m .0 .returns i; answered = m .0 .answers i; out = m .0 .leaves i };
-  left-is = m .1 ∙ sym (fetch-leaves base job (length out) shelf answer);
+  left-is = m .1 ∙ sym (fetch-leaves job (length out) shelf answer);
 }
 
 -- the calls without an output are seen alike
-no-output : (r : Reply) (answer shelf ys : List ℕ) (seen : Seen) (left : List ℕ) → Says (r .answer) answer shelf ys (seen .returned) (seen .answered) left
-    → seen .out ≡ [] → NoValues r → seen ≡ seenOf (clears answer) r
-no-output r answer shelf ys seen left says e none = λ i. record { returned = says .returns i; answered = says .answers i; out = out i }
+no-output : (r : Reply) (counts answer shelf ys : List ℕ) (seen : Seen) (left : List ℕ) → Says (r .answer) answer shelf ys (seen .returned) (seen .answered) left
+    → seen .out ≡ [] → NoValues r → seen ≡ seenOf (clears counts answer) r
+no-output r counts answer shelf ys seen left says e none = λ i. record { returned = says .returns i; answered = says .answers i; out = out i }
   where
     go : (b : Bool) → (if b then overwritten [] (r .values) else []) ≡ []
     go true = ap (overwritten []) none
@@ -92,113 +99,110 @@ no-output r answer shelf ys seen left says e none = λ i. record { returned = sa
     out : seen .out ≡ leftFor answer [] (overwritten [] (r .values))
     out = e ∙ sym (go (hasFour answer))
 
-makes-fixes : (made : Made) (shelf : List ℕ) (seen : Seen) (left : List ℕ) → Makes made shelf seen left → Fixed base made shelf seen left
+makes-fixes : (made : Made) (shelf : List ℕ) (seen : Seen) (left : List ℕ) → Makes made shelf seen left → Fixed made shelf seen left
 makes-fixes (fetches job out answer) shelf seen left m = fetch-fixes job out answer shelf seen left m
-makes-fixes (keeps job proposal answer) shelf seen left m = record {
-  seen-is = no-output (said base shelf (keep job proposal)) answer shelf (after base shelf (keep job proposal)) seen left (m .0) (m .1) (whole-none base _ shelf (keep-none job proposal));
-  left-is = m .0 .leaves;
-}
-makes-fixes (forgets society job answer) shelf seen left m = record {
-  seen-is = no-output (said base shelf (forget society job)) answer shelf (after base shelf (forget society job)) seen left (m .0) (m .1) (whole-none base _ shelf (forget-none base society job shelf));
-  left-is = m .0 .leaves;
-}
-makes-fixes (clears answer) shelf seen left m = record {
-  seen-is = no-output (said base shelf clear) answer shelf (after base shelf clear) seen left (m .0) (m .1) (whole-none base _ shelf refl);
-  left-is = m .0 .leaves;
-}
+makes-fixes (keeps job proposal answer) shelf seen left m =
+    let call = own (keep job proposal) in
+    record {
+      seen-is = no-output (said shelf call) [] answer shelf (after shelf call) seen left (m .0) (m .1) (whole-none _ shelf (row-none (testRow (rowIn shelf)) _ (keep-none job proposal)));
+      left-is = m .0 .leaves;
+    }
+makes-fixes (forgets society job answer) shelf seen left m =
+    let call = own (forget society job) in
+    record {
+      seen-is = no-output (said shelf call) [] answer shelf (after shelf call) seen left (m .0) (m .1) (whole-none _ shelf (row-none (testRow (rowIn shelf)) _ (forget-none (layoutIn shelf) society job shelf)));
+      left-is = m .0 .leaves;
+    }
+makes-fixes (clears counts answer) shelf seen left m =
+    let call = clear counts in
+    record {
+      seen-is = no-output (said shelf call) counts answer shelf (after shelf call) seen left (m .0) (m .1) (whole-none _ shelf (row-none (testRow (rowIn counts)) done refl));
+      left-is = m .0 .leaves;
+    }
 
 -- ---- a sequence as one run
-abbrev shelfSeen : Layout → (shelf : List ℕ) → List Made → List Seen
-shelfSeen l shelf [] = []
-shelfSeen l shelf (made ∷ mades) = seenOf made (said l shelf (callOf made)) ∷ shelfSeen l (leftOn l shelf made) mades
+abbrev pub shelfSeen : (shelf : List ℕ) → List Made → List Seen
+shelfSeen shelf [] = []
+shelfSeen shelf (made ∷ mades) = seenOf made (said shelf (callOf made)) ∷ shelfSeen (leftOn shelf made) mades
 
-pub run-seen : (mades : List Made) (shelf : List ℕ) (seens : List Seen) → MakesAll mades shelf seens → seens ≡ shelfSeen base shelf mades
+pub run-seen : (mades : List Made) (shelf : List ℕ) (seens : List Seen) → MakesAll mades shelf seens → seens ≡ shelfSeen shelf mades
 run-seen [] shelf seens m = m
 run-seen (made ∷ mades) shelf [] m = absurd m
 run-seen (made ∷ mades) shelf (seen ∷ seens) m =
     let k = makes-fixes made shelf seen (m .0) (m .1) in
     let rest = subst (λ (x : List ℕ). MakesAll mades x seens) (k .left-is) (m .2) in
-    ap₂ (λ (s : Seen) (ss : List Seen). s ∷ ss) (k .seen-is) (run-seen mades (leftOn base shelf made) seens rest)
+    ap₂ (λ (s : Seen) (ss : List Seen). s ∷ ss) (k .seen-is) (run-seen mades (leftOn shelf made) seens rest)
 
-module _ (l : Layout) (ok : Lawful l) where
-  -- ---- eight lists
-  sim-left : (made : Made) (xs : List ℕ) (lists : Lists) → Sim l xs lists → Sim l (leftOn l xs made) (listsLeft (l .count) lists made)
-  sim-left made xs lists sim = go (hasFour (answerLent made))
+-- ---- eight lists
+stands-left : (made : Made) (xs : List ℕ) (k : Kept) → Stands xs k → Stands (leftOn xs made) (listsLeft k made)
+stands-left made xs k st = go (hasFour (answerLent made))
+  where
+    go : (b : Bool) → Stands (if b then after xs (callOf made) else xs) (if b then keptAfter k (callOf made) else k)
+    go true = stands-after xs k st (callOf made)
+    go false = st
+
+stands-seen : (mades : List Made) (xs : List ℕ) (k : Kept) → Stands xs k → shelfSeen xs mades ≡ listsSeen k mades
+stands-seen [] xs k st = refl
+stands-seen (made ∷ mades) xs k st =
+    ap₂ (λ (s : Seen) (ss : List Seen). s ∷ ss) (ap (seenOf made) (stands-said xs k st (callOf made)))
+    (stands-seen mades (leftOn xs made) (listsLeft k made) (stands-left made xs k st))
+
+-- a clearing leaves the cleared shelf, and no list has a table
+pub lists-seen : (shelf counts answer : List ℕ) → length shelf ≡ shelfWords → testRow (rowIn counts) ≡ Right → hasFour answer ≡ true → (mades : List Made)
+    → shelfSeen shelf (clears counts answer ∷ mades) ≡ listsSeen (emptied counts) (clears counts answer ∷ mades)
+lists-seen shelf counts answer len right four mades =
+    let clearing = clear-right shelf len counts right in
+    let left : leftOn shelf (clears counts answer) ≡ cleared (rowIn counts) shelf = ap (λ (b : Bool). if b then after shelf (clear counts) else shelf) four ∙ sym (clearing .1) in
+    let lists : listsLeft (emptied counts) (clears counts answer) ≡ emptied counts =
+    ap {B = Kept} (λ (b : Bool). if b then keptAfter (emptied counts) (clear counts) else emptied counts) four ∙ ap {B = Kept} (λ (o : Row). onRow o (emptied counts) (λ place. emptied counts)) right in
+    let says : said shelf (clear counts) ≡ onRow (testRow (rowIn counts)) done (λ place. refusal 22 place) =
+    sym (clearing .0) ∙ sym (ap {B = Reply} (λ (o : Row). onRow o done (λ place. refusal 22 place)) right) in
+    ap₂ (λ (s : Seen) (ss : List Seen). s ∷ ss) (ap (seenOf (clears counts answer)) says)
+    (ap (λ (x : List ℕ). shelfSeen x mades) left ∙ stands-seen mades (cleared (rowIn counts) shelf) (emptied counts) (cleared-stands counts shelf right len)
+    ∙ ap (λ (k : Kept). listsSeen k mades) (sym lists))
+
+-- ---- no neighbour
+module _ (s : ℕ) (xs ys : List ℕ) (k : Alike s xs ys) (made : Made) where
+  left-left : namesOther s (callOf made) ≡ true → Alike s (leftOn xs made) ys
+  left-left n = go (hasFour (answerLent made))
     where
-      go : (b : Bool) → Sim l (if b then after l xs (callOf made) else xs) (if b then listsAfter (l .count) lists (callOf made) else lists)
-      go true = sim-after l ok (callOf made) xs lists sim
-      go false = sim
+      go : (b : Bool) → Alike s (if b then after xs (callOf made) else xs) ys
+      go true = left-alike s xs ys k (callOf made) n
+      go false = k
 
-  sim-seen : (mades : List Made) (xs : List ℕ) (lists : Lists) → Sim l xs lists → shelfSeen l xs mades ≡ listsSeen (l .count) lists mades
-  sim-seen [] xs lists sim = refl
-  sim-seen (made ∷ mades) xs lists sim =
-      ap₂ (λ (s : Seen) (ss : List Seen). s ∷ ss) (ap (seenOf made) (sim-said l ok (callOf made) xs lists sim))
-      (sim-seen mades (leftOn l xs made) (listsLeft (l .count) lists made) (sim-left made xs lists sim))
-
-  -- a clearing leaves the cleared shelf, and no list has a table
-  pub lists-seen : (shelf answer : List ℕ) → length shelf ≡ l .total → hasFour answer ≡ true → (mades : List Made)
-      → shelfSeen l shelf (clears answer ∷ mades) ≡ listsSeen (l .count) nothing (clears answer ∷ mades)
-  lists-seen shelf answer len four mades =
-      let left : leftOn l shelf (clears answer) ≡ cleared l = ap (λ (b : Bool). if b then after l shelf clear else shelf) four ∙ sym (on-whole l shelf len (λ s. cleared l)) in
-      let lists : listsLeft (l .count) nothing (clears answer) ≡ nothing = ap {B = Lists} (λ (b : Bool). if b then nothing else nothing) four in
-      ap₂ (λ (s : Seen) (ss : List Seen). s ∷ ss) (ap (seenOf (clears answer)) (sym (from-whole l shelf len (λ s. done))))
-      (ap (λ (x : List ℕ). shelfSeen l x mades) left ∙ sim-seen mades (cleared l) nothing (sim-cleared l ok) ∙ ap (λ (x : Lists). listsSeen (l .count) x mades) (sym lists))
-
-  -- ---- no neighbour
-  left-length : (made : Made) (xs : List ℕ) → length (leftOn l xs made) ≡ length xs
-  left-length made xs = go (hasFour (answerLent made))
+  left-own : namesOther s (callOf made) ≡ false → Alike s (leftOn xs made) (leftOn ys made)
+  left-own n = go (hasFour (answerLent made))
     where
-      go : (b : Bool) → length (if b then after l xs (callOf made) else xs) ≡ length xs
-      go true = after-length l ok (callOf made) xs
-      go false = refl
+      go : (b : Bool) → Alike s (if b then after xs (callOf made) else xs) (if b then after ys (callOf made) else ys)
+      go true = stays-alike s xs ys k (callOf made) n
+      go false = k
 
-  left-stays : (s : ℕ) → s ≤ 7 → (made : Made) (xs : List ℕ) → namesOther s (callOf made) ≡ true → spanOf l s (leftOn l xs made) ≡ spanOf l s xs
-  left-stays s m made xs n = go (hasFour (answerLent made))
-    where
-      go : (b : Bool) → spanOf l s (if b then after l xs (callOf made) else xs) ≡ spanOf l s xs
-      go true = other-stays l ok s m (callOf made) xs n
-      go false = refl
+seen-same : (s : ℕ) (mades : List Made) (xs ys : List ℕ) → Alike s xs ys → ownSeen s mades (shelfSeen xs mades) ≡ ownSeen s (withoutOthers s mades) (shelfSeen ys (withoutOthers s mades))
+seen-same s [] xs ys k = refl
+seen-same s (made ∷ mades) xs ys k =
+    go (namesOther s call) refl
+    (λ n. seen-same s mades (leftOn xs made) ys (left-left s xs ys k made n))
+    (λ n. seen-same s mades (leftOn xs made) (leftOn ys made) (left-own s xs ys k made n))
+  where
+    call : Call
+    call = callOf made
 
-  module _ (s : ℕ) (xs ys : List ℕ) (same : length xs ≡ length ys) (a : s ≤ 7 → spanOf l s xs ≡ spanOf l s ys) where
-    left-own : (made : Made) → namesOther s (callOf made) ≡ false → s ≤ 7 → spanOf l s (leftOn l xs made) ≡ spanOf l s (leftOn l ys made)
-    left-own made n m = go (hasFour (answerLent made))
-      where
-        go : (b : Bool) → spanOf l s (if b then after l xs (callOf made) else xs) ≡ spanOf l s (if b then after l ys (callOf made) else ys)
-        go true = own-after l ok s xs ys same a (callOf made) n m
-        go false = a m
+    its : (shelf : List ℕ) → List Made → List Seen
+    its shelf others = ownSeen s others (shelfSeen shelf others)
 
-  seen-same : (s : ℕ) (mades : List Made) (xs ys : List ℕ) → length xs ≡ length ys → (s ≤ 7 → spanOf l s xs ≡ spanOf l s ys)
-      → ownSeen s mades (shelfSeen l xs mades) ≡ ownSeen s (withoutOthers s mades) (shelfSeen l ys (withoutOthers s mades))
-  seen-same s [] xs ys same a = refl
-  seen-same s (made ∷ mades) xs ys same a =
-      go (namesOther s call) refl
-      (λ n. seen-same s mades xs-left ys (left-length made xs ∙ same) (λ h. left-stays s h made xs n ∙ a h))
-      (λ n. seen-same s mades xs-left ys-left (left-length made xs ∙ same ∙ sym (left-length made ys)) (left-own s xs ys same a made n))
-    where
-      call : Call
-      call = callOf made
+    -- a call that is not left out
+    stays : (o : Bool) → names s call ≡ o → its (leftOn xs made) mades ≡ its (leftOn ys made) (withoutOthers s mades)
+        → cond o (seenOf made (said xs call) ∷ its (leftOn xs made) mades) (its (leftOn xs made) mades)
+        ≡ cond o (seenOf made (said ys call) ∷ its (leftOn ys made) (withoutOthers s mades)) (its (leftOn ys made) (withoutOthers s mades))
+    stays true n e = ap₂ (λ (r : Seen) (rs : List Seen). r ∷ rs) (ap (seenOf made) (told-alike s xs ys k call n)) e
+    stays false n e = e
 
-      xs-left : List ℕ
-      xs-left = leftOn l xs made
+    go : (b : Bool) → namesOther s call ≡ b → (namesOther s call ≡ true → its (leftOn xs made) mades ≡ its ys (withoutOthers s mades))
+        → (namesOther s call ≡ false → its (leftOn xs made) mades ≡ its (leftOn ys made) (withoutOthers s mades))
+        → its xs (made ∷ mades) ≡ its ys (cond b (withoutOthers s mades) (made ∷ withoutOthers s mades))
+    go true n p q = ap (λ (o : Bool). cond o (seenOf made (said xs call) ∷ its (leftOn xs made) mades) (its (leftOn xs made) mades)) (not-this s (named call) n) ∙ p n
+    go false n p q = stays (names s call) refl (q n)
 
-      ys-left : List ℕ
-      ys-left = leftOn l ys made
-
-      own : (shelf : List ℕ) → List Made → List Seen
-      own shelf others = ownSeen s others (shelfSeen l shelf others)
-
-      -- a call that is not left out
-      stays : (o : Bool) → names s call ≡ o → own xs-left mades ≡ own ys-left (withoutOthers s mades)
-          → cond o (seenOf made (said l xs call) ∷ own xs-left mades) (own xs-left mades) ≡ cond o (seenOf made (said l ys call) ∷ own ys-left (withoutOthers s mades)) (own ys-left (withoutOthers s mades))
-      stays true n e = ap₂ (λ (r : Seen) (rs : List Seen). r ∷ rs) (ap (seenOf made) (own-said l ok s xs ys same a call n)) e
-      stays false n e = e
-
-      go : (b : Bool) → namesOther s call ≡ b → (namesOther s call ≡ true → own xs-left mades ≡ own ys (withoutOthers s mades))
-          → (namesOther s call ≡ false → own xs-left mades ≡ own ys-left (withoutOthers s mades))
-          → own xs (made ∷ mades) ≡ own ys (cond b (withoutOthers s mades) (made ∷ withoutOthers s mades))
-      go true n p q = ap (λ (o : Bool). cond o (seenOf made (said l xs call) ∷ own xs-left mades) (own xs-left mades)) (not-this s (named call) n) ∙ p n
-      go false n p q = stays (names s call) refl (q n)
-
-  pub alone-seen : (society : ℕ) (mades : List Made) (xs : List ℕ)
-      → ownSeen society mades (shelfSeen l xs mades) ≡ ownSeen society (withoutOthers society mades) (shelfSeen l xs (withoutOthers society mades))
-  alone-seen society mades xs = seen-same society mades xs xs refl (λ h. refl)
+pub alone-seen : (society : ℕ) (mades : List Made) (xs : List ℕ)
+    → ownSeen society mades (shelfSeen xs mades) ≡ ownSeen society (withoutOthers society mades) (shelfSeen xs (withoutOthers society mades))
+alone-seen society mades xs = seen-same society mades xs xs (record { long = refl; row = refl; span = λ h. refl })

@@ -5,14 +5,15 @@ use mathlib.Core.List.{List}
 use Prim.Native.Nat.{ℕ, _≤_}
 use native.Mathlib.Omega.{arith}
 use lib.ListN.{length}
-use Rattle.shelf.specs.declared.Row.the-variants.{Right}
-use Rattle.shelf.specs.Counts.{testRow}
-use Rattle.shelf.specs.Slots.{keptIn, forgotIn}
-use Rattle.shelf.specs.Checked.{Checked, checkedOf, accepted, answerOf}
-use Rattle.shelf.specs.Shelf.{Layout, slotFrom, spanOf, sizeOf, rowed, rowIn, onSociety, keptShelf, forgotShelf}
+use Rattle.counts.specs.declared.Row.the-variants.{Right}
+use Rattle.counts.specs.Counts.{testRow, rowIn}
+use Rattle.slots.specs.Slots.{keptIn, forgotIn}
+use Rattle.checked.specs.Answers.{accepted, answerOf}
+use Rattle.checked.specs.Checked.{Checked, checkedOf}
+use Rattle.shelf.specs.Shelf.{Layout, slotFrom, spanOf, sizeOf, rowed, onSociety, keptShelf, forgotShelf}
 use Rattle.shelf.specs.Calls.{Own, keep, fetch, forget, laidAfter}
-use Rattle.shelf.proofs.Moves.{slot-length}
-use Rattle.shelf.proofs.Sizes.{kept-length, forgot-length}
+use Rattle.slots.proofs.Steps.{slot-length}
+use Rattle.slots.proofs.Sizes.{kept-length, forgot-length}
 use Rattle.shelf.proofs.Spans.{Lawful, span-length, society-length}
 use Rattle.shelf.proofs.Rows.{rowed-lawful, row-stays}
 use Rattle.shelf.proofs.Sound.{Sound, accepted-sound}

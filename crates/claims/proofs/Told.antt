@@ -19,29 +19,15 @@ use Rattle.measure.specs.declared.check.Verdict.{Verdict}
 use Rattle.measure.specs.declared.check.Verdict.the-variants.{Accepted, Refused}
 use Rattle.measure.specs.Loss.{familyOf, familyAcross, acrossAt, lossOf}
 use Rattle.measure.specs.Check.{checkOf}
-<<<<<<< ours
 use Rattle.measure.proofs.Directions.{loss-at-most}
+use Rattle.counts.specs.declared.Row.{Row}
+use Rattle.counts.specs.declared.Row.the-variants.{Right, Wrong}
+use Rattle.counts.specs.Counts.{shelfWords, testRow, onRow, rowIn}
 use Rattle.checked.specs.Answers.{Reply, refusal, accepted, answerOf}
 use Rattle.checked.specs.Checked.{checkedOf}
 use Rattle.shelf.specs.Fetched.{handed}
-use Rattle.shelf.specs.Shelf.{base, fromWhole, keepReply}
-use Rattle.shelf.specs.Calls.{keep, wholeSaid, said}
-||||||| base
-use Rattle.measure.proofs.Losses.{loss-at-most}
-use Rattle.shelf.specs.Slots.{Reply, refusal}
-use Rattle.shelf.specs.Checked.{checkedOf, accepted, answerOf}
-use Rattle.shelf.specs.Shelf.{base, fromWhole, keepReply}
-use Rattle.shelf.specs.Calls.{keep, wholeSaid, said}
-=======
-use Rattle.measure.proofs.Losses.{loss-at-most}
-use Rattle.shelf.specs.Slots.{Reply, refusal}
-use Rattle.shelf.specs.Checked.{checkedOf, accepted, answerOf}
-use Rattle.shelf.specs.declared.Row.{Row}
-use Rattle.shelf.specs.declared.Row.the-variants.{Right, Wrong}
-use Rattle.shelf.specs.Counts.{testRow, onRow}
-use Rattle.shelf.specs.Shelf.{shelfWords, rowIn, layoutIn, fromWhole, keepReply}
+use Rattle.shelf.specs.Shelf.{layoutIn, fromWhole, keepReply}
 use Rattle.shelf.specs.Calls.{own, keep, laidSaid, said}
->>>>>>> theirs
 use Rattle.bench.specs.Answers.{answerWords}
 use Rattle.claims.specs.Read.{jobIn, valuesIn, lossIn}
 use Rattle.claims.specs.Meets.{NoneBelow}
@@ -97,26 +83,18 @@ told-of job proposal answered (Accepted F G) e n w =
     let q = verdicted job proposal (Accepted F G) e refl .as-answered in
     record { F = natAbs F; G = natAbs G; words = w; accepted = q; best = best job proposal (pos (natAbs F)) (pos (natAbs G)) q }
 
-<<<<<<< ours
-pub kept-told : (job proposal shelf answered : List ℕ) → said base shelf (keep job proposal) .answer .number ≡ 0
-    → answered ≡ answerWords (said base shelf (keep job proposal) .answer) → ToldBest job proposal 0 answered
-||||||| base
-pub kept-told : (job proposal shelf answered : List ℕ) → said base shelf (keep job proposal) .answer .number ≡ 0
-    → answered ≡ answerWords (said base shelf (keep job proposal) .answer) → ToldBest job proposal answered
-=======
 pub kept-told : (job proposal shelf answered : List ℕ) → said shelf (own (keep job proposal)) .answer .number ≡ 0
-    → answered ≡ answerWords (said shelf (own (keep job proposal)) .answer) → ToldBest job proposal answered
->>>>>>> theirs
+    → answered ≡ answerWords (said shelf (own (keep job proposal)) .answer) → ToldBest job proposal 0 answered
 unfolding fromWhole keepReply checkedOf
 kept-told job proposal shelf answered n w = go (eqb (length shelf) shelfWords) (testRow (rowIn shelf)) n w
   where
     by : Bool → Row → Reply
     by t o = cond t (onRow o (laidSaid (layoutIn shelf) shelf (keep job proposal)) (λ place. refusal 22 place)) (refusal 13 shelfWords)
 
-<<<<<<< ours
-    go : (t : Bool) → by t .answer .number ≡ 0 → answered ≡ answerWords (by t .answer) → ToldBest job proposal 0 answered
-    go true m u = told-of job proposal answered (checkOf job proposal) refl m u
-    go false m u = absurd (omega (arith, m))
+    go : (t : Bool) (o : Row) → by t o .answer .number ≡ 0 → answered ≡ answerWords (by t o .answer) → ToldBest job proposal 0 answered
+    go true Right m u = told-of job proposal answered (checkOf job proposal) refl m u
+    go true (Wrong place) m u = absurd (omega (arith, m))
+    go false o m u = absurd (omega (arith, m))
 
 -- ---- the values that a fetch hands out, by the check's verdict on a proposal
 pub record Handed (job proposal values : List ℕ) (r : Reply) : Type 0 where
@@ -138,13 +116,3 @@ handed-told job proposal values room (Accepted F G) e n = go (leb (length values
     go : (b : Bool) → reply b .answer .number ≡ 0 → Handed job proposal values (reply b)
     go true m = record { place = refl; given = refl; accepted = told; best = best job proposal (pos (natAbs F)) (pos (natAbs G)) told }
     go false m = absurd (omega (arith, m))
-||||||| base
-    go : (t : Bool) → by t .answer .number ≡ 0 → answered ≡ answerWords (by t .answer) → ToldBest job proposal answered
-    go true m u = told-of job proposal answered (checkOf job proposal) refl m u
-    go false m u = absurd (omega (arith, m))
-=======
-    go : (t : Bool) (o : Row) → by t o .answer .number ≡ 0 → answered ≡ answerWords (by t o .answer) → ToldBest job proposal answered
-    go true Right m u = told-of job proposal answered (checkOf job proposal) refl m u
-    go true (Wrong place) m u = absurd (omega (arith, m))
-    go false o m u = absurd (omega (arith, m))
->>>>>>> theirs

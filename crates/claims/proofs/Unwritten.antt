@@ -20,20 +20,8 @@ use Rattle.measure.specs.declared.check.Verdict.the-variants.{Accepted, Refused
 use Rattle.factor.specs.declared.Ending.{Ending}
 use Rattle.factor.specs.declared.Ending.the-variants.{Whole, Thin}
 use Rattle.house.specs.Proposal.{wordsOf, onEnding, solvedOf, proposedOf, onJobRead, proposeOf}
-<<<<<<< ours
 use Rattle.checked.specs.declared.Answer.{Answer}
 use Rattle.checked.specs.Answers.{overwritten, answerOf}
-use Rattle.shelf.specs.Shelf.{base}
-||||||| base
-use Rattle.shelf.specs.declared.Answer.{Answer}
-use Rattle.shelf.specs.Slots.{overwritten}
-use Rattle.shelf.specs.Checked.{answerOf}
-use Rattle.shelf.specs.Shelf.{base}
-=======
-use Rattle.shelf.specs.declared.Answer.{Answer}
-use Rattle.shelf.specs.Slots.{overwritten}
-use Rattle.shelf.specs.Checked.{answerOf}
->>>>>>> theirs
 use Rattle.shelf.specs.Calls.{Call, after, said}
 use Rattle.bench.specs.Calls.{outcomeOf}
 use Rattle.claims.proofs.Refusals.{refused-of}

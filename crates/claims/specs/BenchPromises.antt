@@ -10,19 +10,14 @@ use lib.ListN.{length, drop, getD}
 use Rattle.numbers.specs.Choice.{if_then_else_}
 use Rattle.measure.specs.declared.check.Verdict.the-variants.{Accepted}
 use Rattle.measure.specs.Check.{checkOf}
-<<<<<<< ours
-use Rattle.shelf.specs.Shelf.{shelfWords}
-use Rattle.shelf.specs.Calls.{Call, keep, forget, clear}
-||||||| base
-use Rattle.shelf.specs.Calls.{Call, keep, forget, clear}
-=======
+use Rattle.counts.specs.declared.Row.the-variants.{Right}
+use Rattle.counts.specs.Counts.{shelfWords, countIn, testRow, rowIn}
 use Rattle.shelf.specs.Calls.{Call, own, keep, forget, clear}
->>>>>>> theirs
 use Rattle.bench.specs.Answers.{hasFour}
 use Rattle.bench.specs.Calls.{CheckSays, ProposeSays, ReadSays, WriteSays, ShelfSays, FetchSays}
 use Rattle.claims.specs.Read.{jobIn, valuesIn}
 use Rattle.claims.specs.Meets.{NoneBelow}
-use Rattle.claims.specs.Lists.{nothing, four}
+use Rattle.claims.specs.Lists.{emptied}
 use Rattle.claims.specs.Seen.{Made, clears, Seen, MakesAll, listsSeen, withoutOthers, ownSeen}
 
 -- What a call may claim of the number that it returns, of its answer slice, and of the slice that it writes to.
@@ -59,13 +54,7 @@ Among (other ∷ others) most number = (number ≡ other) ⊎ Among others most 
 abbrev pub NumberIn : (others : List ℕ) (most : ℕ) {A : Type 0} → Claim A → Type 0
 NumberIn others most {A} claim = (r : ℕ) (a : List ℕ) (x : List A) → claim r a x → Among others most (r % 32)
 
-<<<<<<< ours
--- Each call gives the numbers that the table of document 01, with 20 of document 02 (W-205) and W-203's for a fetch, has for it, and no other: a fetch never gives 11.
-||||||| base
--- Each call gives the numbers that document 01's table, and for a fetch W-203, has for it, and no other: a fetch never gives 11.
-=======
--- Each call gives the numbers that document 01's table, W-203 and W-209 have for it, and no other: a fetch never gives 11.
->>>>>>> theirs
+-- Each call gives the numbers that the table of document 01, with 20 of document 02 (W-205), W-203's for a fetch and 22 of W-209, has for it, and no other: a fetch never gives 11.
 pub record Numbered : Type 0 where
   pub check : (job proposal answer : List ℕ) (r : ℕ) (a : List ℕ) → CheckSays job proposal answer r a → Among (13 ∷ []) 9 (r % 32)
   pub propose : (job out answer : List ℕ) → NumberIn (10 ∷ 13 ∷ 20 ∷ []) 5 (ProposeSays job out answer)
@@ -125,19 +114,19 @@ pub record ToldFetched (job answered left : List ℕ) : Type 0 where
 
 -- So it is wherever check, keep or fetch returns the number 0, whatever words are on the shelf.
 pub record AcceptedTold : Type 0 where
-<<<<<<< ours
   pub check : (job proposal answer : List ℕ) (r : ℕ) (a : List ℕ) → CheckSays job proposal answer r a → r % 32 ≡ 0 → ToldBest job proposal 0 a
-  pub keep : (job proposal shelf answer : List ℕ) (r : ℕ) (a x : List ℕ) → ShelfSays (keep job proposal) shelf answer r a x → r % 32 ≡ 0 → ToldBest job proposal 0 a
+  pub keep : (job proposal shelf answer : List ℕ) (r : ℕ) (a x : List ℕ) → ShelfSays (own (keep job proposal)) shelf answer r a x → r % 32 ≡ 0 → ToldBest job proposal 0 a
   pub fetch : (shelf job out answer : List ℕ) (r : ℕ) (a x : List ℕ) → FetchSays shelf job out answer r a x → r % 32 ≡ 0 → ToldFetched job a x
 
 -- ---- sequences
 
--- "From a cleared shelf, any sequence of calls answers as eight separate lists of at most four tables would": a shelf of any words is cleared and then
--- whatever sequence of the calls is made; what C sees of each, the number returned, the answer slice and the output, is what the lists say.
+-- From a cleared shelf, any sequence of calls answers as eight separate lists would, each of at most as many tables as its society's count: a shelf of any
+-- words is cleared with counts that are allowed, and then whatever sequence of the calls is made, further clearings included; what C sees of each, the
+-- number returned, the answer slice and the output, is what the lists say.
 abbrev pub EightListsSeen : Type 0
 EightListsSeen =
-    (shelf answer : List ℕ) → length shelf ≡ shelfWords → hasFour answer ≡ true → (mades : List Made) (seens : List Seen)
-    → MakesAll (clears answer ∷ mades) shelf seens → seens ≡ listsSeen four nothing (clears answer ∷ mades)
+    (shelf counts answer : List ℕ) → length shelf ≡ shelfWords → testRow (rowIn counts) ≡ Right → hasFour answer ≡ true → (mades : List Made) (seens : List Seen)
+    → MakesAll (clears counts answer ∷ mades) shelf seens → seens ≡ listsSeen (emptied counts) (clears counts answer ∷ mades)
 
 -- From any words: what C sees of one society's calls is the same if every call that names another society is left out.
 abbrev pub NoNeighbourSeen : Type 0
@@ -145,10 +134,3 @@ NoNeighbourSeen =
     (society : ℕ) (mades : List Made) (shelf : List ℕ) (seens fewer : List Seen)
     → MakesAll mades shelf seens → MakesAll (withoutOthers society mades) shelf fewer
     → ownSeen society mades seens ≡ ownSeen society (withoutOthers society mades) fewer
-||||||| base
-  pub check : (job proposal answer : List ℕ) (r : ℕ) (a : List ℕ) → CheckSays job proposal answer r a → r % 32 ≡ 0 → ToldBest job proposal a
-  pub keep : (job proposal shelf answer : List ℕ) (r : ℕ) (a x : List ℕ) → ShelfSays (keep job proposal) shelf answer r a x → r % 32 ≡ 0 → ToldBest job proposal a
-=======
-  pub check : (job proposal answer : List ℕ) (r : ℕ) (a : List ℕ) → CheckSays job proposal answer r a → r % 32 ≡ 0 → ToldBest job proposal a
-  pub keep : (job proposal shelf answer : List ℕ) (r : ℕ) (a x : List ℕ) → ShelfSays (own (keep job proposal)) shelf answer r a x → r % 32 ≡ 0 → ToldBest job proposal a
->>>>>>> theirs

@@ -8,16 +8,8 @@ use lib.IntN.{pos}
 use lib.ListN.{length, getD}
 use Rattle.measure.specs.declared.check.Verdict.the-variants.{Accepted}
 use Rattle.measure.specs.Check.{checkOf}
-<<<<<<< ours
 use Rattle.checked.specs.Answers.{Reply}
-use Rattle.shelf.specs.Calls.{Call, keep}
-||||||| base
-use Rattle.shelf.specs.Slots.{Reply}
-use Rattle.shelf.specs.Calls.{Call, keep}
-=======
-use Rattle.shelf.specs.Slots.{Reply}
 use Rattle.shelf.specs.Calls.{Call, own, keep}
->>>>>>> theirs
 use Rattle.claims.specs.Read.{jobIn, valuesIn}
 use Rattle.claims.specs.Meets.{NoneBelow}
 

@@ -2,18 +2,8 @@
 use Prim.Native.Nat.{ℕ}
 use mathlib.Core.Bool.{cond}
 use mathlib.Core.List.{List, [], _∷_}
-<<<<<<< ours
 use Rattle.checked.specs.Answers.{Reply}
-use Rattle.shelf.specs.Shelf.{Layout}
-use Rattle.shelf.specs.Calls.{Call, after, said, names, namesOther}
-||||||| base
-use Rattle.shelf.specs.Slots.{Reply}
-use Rattle.shelf.specs.Shelf.{Layout}
-use Rattle.shelf.specs.Calls.{Call, after, said, names, namesOther}
-=======
-use Rattle.shelf.specs.Slots.{Reply}
 use Rattle.shelf.specs.Calls.{Own, Call, own, after, said, names, namesOther}
->>>>>>> theirs
 
 -- what the calls that name the society are told, on a shelf
 abbrev pub heard : (society : ℕ) → (shelf : List ℕ) → List Call → List Reply

@@ -6,27 +6,12 @@ use mathlib.Core.Option.{Option, none, some}
 use mathlib.Core.List.{List, [], _∷_}
 use lib.Dec.{eqb}
 use lib.ListN.{length}
-<<<<<<< ours
 use Rattle.checked.specs.Answers.{Reply, accepted}
 use Rattle.checked.specs.Checked.{Checked, checkedOf}
-use Rattle.shelf.specs.Shelf.{Layout}
-use Rattle.shelf.specs.Calls.{Call, keep, fetch, forget, clear, after}
-use Rattle.claims.specs.Lists.{Table, tableFrom, Lists, nothing, listsAfter}
-||||||| base
-use Rattle.shelf.specs.Slots.{Reply}
-use Rattle.shelf.specs.Checked.{Checked, checkedOf, accepted}
-use Rattle.shelf.specs.Shelf.{Layout}
-use Rattle.shelf.specs.Calls.{Call, keep, fetch, forget, clear, after}
-use Rattle.claims.specs.Lists.{Table, tableFrom, Lists, nothing, listsAfter}
-=======
-use Rattle.shelf.specs.Slots.{Reply}
-use Rattle.shelf.specs.Checked.{Checked, checkedOf, accepted}
-use Rattle.shelf.specs.declared.Row.the-variants.{Right}
-use Rattle.shelf.specs.Counts.{testRow}
-use Rattle.shelf.specs.Shelf.{shelfWords, rowIn}
+use Rattle.counts.specs.declared.Row.the-variants.{Right}
+use Rattle.counts.specs.Counts.{shelfWords, testRow, rowIn}
 use Rattle.shelf.specs.Calls.{Own, Call, keep, fetch, forget, own, clear, after}
 use Rattle.claims.specs.Lists.{Table, tableFrom, Kept, emptied, keptAfter}
->>>>>>> theirs
 
 -- the check accepted a table for that society under that job number
 abbrev pub isFor : (society job : ℕ) → Checked → Bool

@@ -10,20 +10,10 @@ use Rattle.jobs.specs.Words.{jobOf}
 use Rattle.jobs.specs.Packs.{readJob}
 use Rattle.checked.specs.Answers.{Reply, refusal, done, accepted, answerOf}
 use Rattle.shelf.specs.Fetched.{fetchTable, onJob}
-<<<<<<< ours
 use Rattle.checked.specs.Checked.{Checked, checkedOf}
+use Rattle.counts.specs.Counts.{countIn, testRow, onRow, rowIn}
 use Rattle.shelf.specs.Shelf.{keepReply}
-use Rattle.shelf.specs.Calls.{Call, keep, fetch, forget, clear}
-||||||| base
-use Rattle.shelf.specs.Checked.{Checked, checkedOf, accepted, answerOf}
-use Rattle.shelf.specs.Shelf.{keepReply}
-use Rattle.shelf.specs.Calls.{Call, keep, fetch, forget, clear}
-=======
-use Rattle.shelf.specs.Checked.{Checked, checkedOf, accepted, answerOf}
-use Rattle.shelf.specs.Counts.{countIn, testRow, onRow}
-use Rattle.shelf.specs.Shelf.{rowIn, keepReply}
 use Rattle.shelf.specs.Calls.{Own, Call, keep, fetch, forget, own, clear}
->>>>>>> theirs
 
 pub record Table : Type 0 where
   pub job : ℕ

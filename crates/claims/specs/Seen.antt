@@ -7,36 +7,36 @@ use mathlib.Core.List.{List, [], _∷_}
 use lib.ListN.{length}
 use Rattle.numbers.specs.Choice.{if_then_else_}
 use Rattle.checked.specs.Answers.{Reply, overwritten}
-use Rattle.shelf.specs.Calls.{Call, keep, fetch, forget, clear, names, namesOther}
+use Rattle.shelf.specs.Calls.{Call, keep, fetch, forget, own, clear, names, namesOther}
 use Rattle.bench.specs.Answers.{hasFour, returnedFor, writtenFor, leftFor}
 use Rattle.bench.specs.Calls.{ShelfSays, FetchSays}
-use Rattle.claims.specs.Lists.{Lists, listsAfter, listsSay}
+use Rattle.claims.specs.Lists.{Kept, keptAfter, keptSay}
 
 -- ---- a call that is made, and what is seen of it
 pub data Made : Type 0 where
   keeps : (job proposal answer : List ℕ) → Made
   fetches : (job out answer : List ℕ) → Made
   forgets : (society job : ℕ) (answer : List ℕ) → Made
-  clears : (answer : List ℕ) → Made
+  clears : (counts answer : List ℕ) → Made
 
 -- the call, the answer slice and the output that it is made with; only a fetch has an output
 abbrev pub callOf : Made → Call
-callOf (keeps job proposal answer) = keep job proposal
-callOf (fetches job out answer) = fetch job (length out)
-callOf (forgets society job answer) = forget society job
-callOf (clears answer) = clear
+callOf (keeps job proposal answer) = own (keep job proposal)
+callOf (fetches job out answer) = own (fetch job (length out))
+callOf (forgets society job answer) = own (forget society job)
+callOf (clears counts answer) = clear counts
 
 abbrev pub answerLent : Made → List ℕ
 answerLent (keeps job proposal answer) = answer
 answerLent (fetches job out answer) = answer
 answerLent (forgets society job answer) = answer
-answerLent (clears answer) = answer
+answerLent (clears counts answer) = answer
 
 abbrev pub outLent : Made → List ℕ
 outLent (keeps job proposal answer) = []
 outLent (fetches job out answer) = out
 outLent (forgets society job answer) = []
-outLent (clears answer) = []
+outLent (clears counts answer) = []
 
 pub record Seen : Type 0 where
   pub returned : ℕ
@@ -47,9 +47,9 @@ pub record Seen : Type 0 where
 -- One call on a shelf: the claim that its contract cites, of what is seen and of the shelf that is left. A fetch is lent the shelf to read it alone.
 abbrev pub Makes : Made → (shelf : List ℕ) → Seen → (left : List ℕ) → Type 0
 Makes (fetches job out answer) shelf seen left = FetchSays shelf job out answer (seen .returned) (seen .answered) (seen .out) × (left ≡ shelf)
-Makes (keeps job proposal answer) shelf seen left = ShelfSays (keep job proposal) shelf answer (seen .returned) (seen .answered) left × (seen .out ≡ [])
-Makes (forgets society job answer) shelf seen left = ShelfSays (forget society job) shelf answer (seen .returned) (seen .answered) left × (seen .out ≡ [])
-Makes (clears answer) shelf seen left = ShelfSays clear shelf answer (seen .returned) (seen .answered) left × (seen .out ≡ [])
+Makes (keeps job proposal answer) shelf seen left = ShelfSays (own (keep job proposal)) shelf answer (seen .returned) (seen .answered) left × (seen .out ≡ [])
+Makes (forgets society job answer) shelf seen left = ShelfSays (own (forget society job)) shelf answer (seen .returned) (seen .answered) left × (seen .out ≡ [])
+Makes (clears counts answer) shelf seen left = ShelfSays (clear counts) shelf answer (seen .returned) (seen .answered) left × (seen .out ≡ [])
 
 -- A sequence of them, each on the shelf that the one before has left.
 abbrev pub MakesAll : List Made → (shelf : List ℕ) → List Seen → Type 0
@@ -67,12 +67,12 @@ seenOf made reply = record {
 }
 
 -- a call whose answer slice has another length than four does nothing
-abbrev pub listsLeft : (count : ℕ → ℕ) → Lists → Made → Lists
-listsLeft count lists made = if hasFour (answerLent made) then listsAfter count lists (callOf made) else lists
+abbrev pub listsLeft : Kept → Made → Kept
+listsLeft k made = if hasFour (answerLent made) then keptAfter k (callOf made) else k
 
-abbrev pub listsSeen : (count : ℕ → ℕ) → Lists → List Made → List Seen
-listsSeen count lists [] = []
-listsSeen count lists (made ∷ mades) = seenOf made (listsSay lists (callOf made)) ∷ listsSeen count (listsLeft count lists made) mades
+abbrev pub listsSeen : Kept → List Made → List Seen
+listsSeen k [] = []
+listsSeen k (made ∷ mades) = seenOf made (keptSay k (callOf made)) ∷ listsSeen (listsLeft k made) mades
 
 -- ---- one society's calls
 -- the calls made without those that name another society

@@ -6,24 +6,16 @@ use mathlib.Core.Path.{_≡_}
 use mathlib.Core.Bool.{true, false}
 use mathlib.Core.Option.{some}
 use mathlib.Core.List.{List, []}
-<<<<<<< ours
 use lib.ListN.{length}
 use Rattle.numbers.specs.Choice.{if_then_else_}
-||||||| base
-use lib.ListN.{length}
-use Rattle.jobs.specs.Job.{Job}
-=======
-use lib.ListN.{length, drop}
-use Rattle.jobs.specs.Job.{Job}
->>>>>>> theirs
 use Rattle.jobs.specs.Packs.{readJob}
 use Rattle.measure.specs.Check.{checkOf}
 use Rattle.checked.specs.Answers.{Reply, refusal, accepted}
 use Rattle.checked.specs.Checked.{checkedOf}
 use Rattle.shelf.specs.Fetched.{handed, sameCounts}
-use Rattle.shelf.specs.declared.Row.the-variants.{Right, Wrong}
-use Rattle.shelf.specs.Counts.{societies, countIn, slotsOf, testRow}
-use Rattle.shelf.specs.Shelf.{Ready, slotWords, shelfWords, rowIn, spanIn}
+use Rattle.counts.specs.declared.Row.the-variants.{Right, Wrong}
+use Rattle.counts.specs.Counts.{shelfWords, countIn, testRow, rowIn, restOf, Ready}
+use Rattle.shelf.specs.Shelf.{spanIn}
 use Rattle.shelf.specs.Calls.{Own, Call, fetch, own, clear, after, said, shelfRun, names}
 use Rattle.claims.specs.Read.{jobIn, Reads}
 use Rattle.claims.specs.Lists.{Table, tableFrom, tableFor, holds, emptied, listsRun}
@@ -69,9 +61,6 @@ abbrev pub RowStays : Type 0
 RowStays = (call : Own) (shelf : List ℕ) → rowIn (after shelf (own call)) ≡ rowIn shelf
 
 -- "the rest of it is never touched, even by clearing": the words behind the last span of a row, after a society's call and after a clearing.
-abbrev pub restOf : (row shelf : List ℕ) → List ℕ
-restOf row shelf = drop (societies + slotWords * slotsOf row) shelf
-
 abbrev pub RestStays : Type 0
 RestStays = (shelf : List ℕ) → Ready shelf → (call : Own) → restOf (rowIn shelf) (after shelf (own call)) ≡ restOf (rowIn shelf) shelf
 
@@ -97,40 +86,30 @@ LastKeptFetched =
     → said (shelfAfter shelf calls) (own (fetch job room)) ≡ tableFor (jobIn job) room t
 
 -- The table last kept under the society and the number of the job presented came of these two packs, and it is among those that the rule still holds.
-pub record KeptUnder (calls : List Call) (job old proposal : List ℕ) : Type 0 where
+pub record KeptUnder (counts : List ℕ) (calls : List Call) (job old proposal : List ℕ) : Type 0 where
   pub yes : accepted (checkOf old proposal) ≡ true
   pub last : lastKept (jobIn job .society) (jobIn job .number) calls ≡ some (tableFrom (checkedOf old proposal))
-  pub still : holds (jobIn job .number) (held four calls (jobIn job .society)) ≡ true
+  pub still : holds (jobIn job .number) (held counts calls (jobIn job .society)) ≡ true
 
 -- "a fetch checks both against the job presented, answering as the check would": whatever job pack of that society and number is presented, corrected
 -- or not, the answer is what the check says of the kept proposal and the job presented; "12 also when the kept cell or link count differs".
 abbrev pub FetchedAsChecked : Type 0
 FetchedAsChecked =
-    (calls : List Call) (job old proposal : List ℕ) (room : ℕ) → Reads (readJob job .outcome) → KeptUnder calls job old proposal
-    → said base (shelfAfter base (cleared base) calls) (fetch job room)
+    (counts shelf : List ℕ) → ClearedWith counts shelf → (calls : List Call) (job old proposal : List ℕ) (room : ℕ) → Reads (readJob job .outcome)
+    → KeptUnder counts calls job old proposal → said (shelfAfter shelf calls) (own (fetch job room))
     ≡ (if sameCounts (jobIn job) (jobIn old .cells) (jobIn old .links) then handed room (checkedOf old proposal .values) (checkOf job proposal) else refusal 12 0)
 
 -- So the very job pack under which a table was kept fetches it, with that F and G, where there is room.
 abbrev pub SameJobFetched : Type 0
 SameJobFetched =
-<<<<<<< ours
-    (calls : List Call) (job proposal : List ℕ) (room : ℕ) → KeptUnder calls job job proposal → jobIn job .cells ≤ room
-    → said base (shelfAfter base (cleared base) calls) (fetch job room) ≡ given (tableFrom (checkedOf job proposal))
-||||||| base
-    (calls : List Call) (job proposal : List ℕ) (room : ℕ) → accepted (checkOf job proposal) ≡ true
-    → lastKept (jobIn job .society) (jobIn job .number) calls ≡ some (tableFrom (checkedOf job proposal))
-    → holds (jobIn job .number) (held four calls (jobIn job .society)) ≡ true → jobIn job .cells ≤ room
-    → said base (shelfAfter base (cleared base) calls) (fetch job room) ≡ given (tableFrom (checkedOf job proposal))
-=======
-    (counts shelf : List ℕ) → ClearedWith counts shelf → (calls : List Call) (job proposal : List ℕ) (room : ℕ) → accepted (checkOf job proposal) ≡ true
-    → lastKept (jobIn job .society) (jobIn job .number) calls ≡ some (tableFrom (checkedOf job proposal))
-    → holds (jobIn job .number) (held counts calls (jobIn job .society)) ≡ true → jobIn job .cells ≤ room
-    → said (shelfAfter shelf calls) (own (fetch job room)) ≡ given (tableFrom (checkedOf job proposal))
->>>>>>> theirs
+    (counts shelf : List ℕ) → ClearedWith counts shelf → (calls : List Call) (job proposal : List ℕ) (room : ℕ) → KeptUnder counts calls job job proposal
+    → jobIn job .cells ≤ room → said (shelfAfter shelf calls) (own (fetch job room)) ≡ given (tableFrom (checkedOf job proposal))
 
 -- 6 is for words that no keep has written: after a clearing no fetch gives it.
 abbrev pub NeverSix : Type 0
-NeverSix = (calls : List Call) (job : List ℕ) (room : ℕ) → said base (shelfAfter base (cleared base) calls) (fetch job room) .answer .number ≡ 6 → ⊥
+NeverSix =
+    (counts shelf : List ℕ) → ClearedWith counts shelf → (calls : List Call) (job : List ℕ) (room : ℕ)
+    → said (shelfAfter shelf calls) (own (fetch job room)) .answer .number ≡ 6 → ⊥
 
 -- What the rule holds no more, dropped, forgotten or cleared, is refused with 12.
 abbrev pub LostRefused : Type 0

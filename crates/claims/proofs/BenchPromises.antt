@@ -18,12 +18,12 @@ use Rattle.bench.proofs.Small.{Small, check-small}
 use Rattle.bench.proofs.Outcomes.{propose-small, read-small, write-small}
 use Rattle.bench.proofs.Shelves.{said-small}
 use Rattle.claims.specs.Seen.{clears, withoutOthers, ownSeen}
-use Rattle.claims.specs.BenchPromises.{Among, Untouched, Determined, Numbered, RefusalsKept, RestsKept, AcceptedTold, EightListsSeen, NoNeighbourSeen}
+use Rattle.claims.specs.BenchPromises.{Among, Untouched, Determined, Numbered, RefusalsKept, RestsKept, AcceptedTold, EightListsSeen, NoNeighbourSeen, OwnCallsSeen}
 use Rattle.claims.proofs.Told.{told-of, kept-told}
 use Rattle.claims.proofs.FetchTold.{fetch-told}
 use Rattle.claims.proofs.Unwritten.{Kept, verdict-kept, write-kept, read-kept, propose-kept, shelf-kept, fetch-kept}
 use Rattle.claims.proofs.CallNumbers.{check-number, propose-number, read-number, write-number, keep-number, fetch-number, forget-number, clear-number}
-use Rattle.claims.proofs.Seen.{run-seen, lists-seen, alone-seen}
+use Rattle.claims.proofs.Seen.{run-seen, lists-seen, alone-seen, decided-seen}
 use Rattle.claims.proofs.Beyond.{beyond-made, beyond-values, write-within, read-within, propose-within, fetch-within}
 
 -- ---- determined
@@ -170,3 +170,7 @@ pub no-neighbour-seen : NoNeighbourSeen
 no-neighbour-seen society mades shelf seens fewer m k =
     let others = withoutOthers society mades in
     ap (ownSeen society mades) (run-seen mades shelf seens m) ∙ alone-seen society mades shelf ∙ sym (ap (ownSeen society others) (run-seen others shelf fewer k))
+
+pub own-calls-seen : OwnCallsSeen
+own-calls-seen society m counts others xs ys cx cy ec mades more a b e seens others-seen p q =
+    ap (ownSeen society mades) (run-seen mades xs seens p) ∙ decided-seen society m counts others xs ys cx cy ec mades more a b e ∙ sym (ap (ownSeen society more) (run-seen more ys others-seen q))

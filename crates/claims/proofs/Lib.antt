@@ -21,6 +21,7 @@ pub mod Rests
 pub mod Refusals
 pub mod Fetched
 pub mod NeverSix
+pub mod CountsPromises
 pub mod ShelfPromises
 pub mod Along
 pub mod HousePromises

@@ -320,11 +320,11 @@ pub alone : (society : ℕ) (calls : List Call) (xs : List ℕ) → heard societ
 alone society calls xs = run-same society calls xs xs (record { long = refl; row = refl; span = λ h. refl })
 
 -- ---- two shelves that are ready, with one count and one span of the society, whatever else they are
-record Near (s : ℕ) (xs ys : List ℕ) : Type 0 where
-  x : Ready xs
-  y : Ready ys
-  count : countIn (rowIn xs) s ≡ countIn (rowIn ys) s
-  span : spanIn s xs ≡ spanIn s ys
+pub record Near (s : ℕ) (xs ys : List ℕ) : Type 0 where
+  pub x : Ready xs
+  pub y : Ready ys
+  pub count : countIn (rowIn xs) s ≡ countIn (rowIn ys) s
+  pub span : spanIn s xs ≡ spanIn s ys
 
 ready-after : (call : Own) (xs : List ℕ) → Ready xs → Ready (after xs (own call))
 ready-after call xs r = record { long = length-of call xs ∙ r .long; row = ap {B = Row} testRow (row-of call xs) ∙ r .row }
@@ -332,24 +332,34 @@ ready-after call xs r = record { long = length-of call xs ∙ r .long; row = ap 
 count-after : (s : ℕ) (call : Own) (xs : List ℕ) → countIn (rowIn (after xs (own call))) s ≡ countIn (rowIn xs) s
 count-after s call xs = ap (λ (r : List ℕ). countIn r s) (row-of call xs)
 
+module _ (s : ℕ) (m : s ≤ 7) (xs ys : List ℕ) (k : Near s xs ys) (call : Own) where
+  pub told-near : names s (own call) ≡ true → said xs (own call) ≡ said ys (own call)
+  told-near n = told-ready s xs ys (k .x) (k .y) (k .count) (λ h. k .span) call n
+
+  pub own-near : names s (own call) ≡ true → Near s (after xs (own call)) (after ys (own call))
+  own-near n = record {
+    x = ready-after call xs (k .x);
+    y = ready-after call ys (k .y);
+    count = count-after s call xs ∙ k .count ∙ sym (count-after s call ys);
+    span = span-ready s xs ys (k .x) (k .y) (k .count) (λ h. k .span) call (not-other s (namedBy call) n) m;
+  }
+
+  pub other-near : names s (own call) ≡ false → Near s (after xs (own call)) ys
+  other-near n = record { x = ready-after call xs (k .x); y = k .y; count = count-after s call xs ∙ k .count; span = stays s m call n xs ∙ k .span }
+
 own-run : (s : ℕ) → s ≤ 7 → (calls : List Own) (xs ys : List ℕ) → Near s xs ys → heard s xs (sent calls) ≡ heard s ys (sent (onlyOwn s calls))
 own-run s m [] xs ys k = refl
 own-run s m (call ∷ calls) xs ys k =
     go (names s (own call)) refl
-    (λ n. own-run s m calls (after xs (own call)) (after ys (own call)) (record {
-      x = ready-after call xs (k .x);
-      y = ready-after call ys (k .y);
-      count = count-after s call xs ∙ k .count ∙ sym (count-after s call ys);
-      span = span-ready s xs ys (k .x) (k .y) (k .count) (λ h. k .span) call (not-other s (namedBy call) n) m;
-    }))
-    (λ n. own-run s m calls (after xs (own call)) ys (record { x = ready-after call xs (k .x); y = k .y; count = count-after s call xs ∙ k .count; span = stays s m call n xs ∙ k .span }))
+    (λ n. own-run s m calls (after xs (own call)) (after ys (own call)) (own-near s m xs ys k call n))
+    (λ n. own-run s m calls (after xs (own call)) ys (other-near s m xs ys k call n))
   where
     go : (b : Bool) → names s (own call) ≡ b → (names s (own call) ≡ true → heard s (after xs (own call)) (sent calls) ≡ heard s (after ys (own call)) (sent (onlyOwn s calls)))
         → (names s (own call) ≡ false → heard s (after xs (own call)) (sent calls) ≡ heard s ys (sent (onlyOwn s calls)))
         → cond b (said xs (own call) ∷ heard s (after xs (own call)) (sent calls)) (heard s (after xs (own call)) (sent calls))
         ≡ heard s ys (sent (cond b (call ∷ onlyOwn s calls) (onlyOwn s calls)))
     go true n p q =
-        ap (λ (r : Reply). r ∷ heard s (after xs (own call)) (sent calls)) (told-ready s xs ys (k .x) (k .y) (k .count) (λ h. k .span) call n)
+        ap (λ (r : Reply). r ∷ heard s (after xs (own call)) (sent calls)) (told-near s m xs ys k call n)
         ∙ ap (λ (rs : List Reply). said ys (own call) ∷ rs) (p n)
         ∙ sym (ap (λ (o : Bool). cond o (said ys (own call) ∷ heard s (after ys (own call)) (sent (onlyOwn s calls))) (heard s (after ys (own call)) (sent (onlyOwn s calls)))) n)
     go false n p q = q n
@@ -373,16 +383,24 @@ fresh s m counts shelf from =
       span = ap (λ (r : List ℕ). spanOf (rowed r) s (cleared row old)) front ∙ cleared-span row eight e old (from .long) s (omega arith);
     })
 
+module _ (s : ℕ) (m : s ≤ 7) (counts others xs ys : List ℕ) (cx : ClearedWith counts xs) (cy : ClearedWith others ys) (ec : countIn (rowIn counts) s ≡ countIn (rowIn others) s) where
+  pub near-cleared : Near s xs ys
+  near-cleared =
+      let fx = fresh s m counts xs cx in
+      let fy = fresh s m others ys cy in
+      record {
+        x = fx .ready;
+        y = fy .ready;
+        count = fx .count ∙ ec ∙ sym (fy .count);
+        span = fx .span ∙ ap (λ (c : ℕ). replicate (slotWords * c) 0) ec ∙ sym (fy .span);
+      }
+
+  pub near-itself : Near s ys ys
+  near-itself = let r = fresh s m others ys cy .ready in record { x = r; y = r; count = refl; span = refl }
+
 pub own-decide : (society : ℕ) → society ≤ 7 → (counts others xs ys : List ℕ) → ClearedWith counts xs → ClearedWith others ys → countIn (rowIn counts) society ≡ countIn (rowIn others) society
     → (calls more : List Own) → onlyOwn society calls ≡ onlyOwn society more → heard society xs (sent calls) ≡ heard society ys (sent more)
 own-decide s m counts others xs ys cx cy ec calls more e =
-    let fx = fresh s m counts xs cx in
-    let fy = fresh s m others ys cy in
-    own-run s m calls xs ys (record {
-      x = fx .ready;
-      y = fy .ready;
-      count = fx .count ∙ ec ∙ sym (fy .count);
-      span = fx .span ∙ ap (λ (c : ℕ). replicate (slotWords * c) 0) ec ∙ sym (fy .span);
-    })
+    own-run s m calls xs ys (near-cleared s m counts others xs ys cx cy ec)
     ∙ ap (λ (own-calls : List Own). heard s ys (sent own-calls)) e
-    ∙ sym (own-run s m more ys ys (record { x = fy .ready; y = fy .ready; count = refl; span = refl }))
+    ∙ sym (own-run s m more ys ys (near-itself s m counts others xs ys cx cy ec))

@@ -1,6 +1,6 @@
 -- What C sees of a sequence: each call's claim fixes what is seen and the shelf that is left, so a sequence is one run of `said` and `after`, in which a
 -- call without four words for its answer does nothing. What holds of one call on a shelf then holds all along.
-use Prim.Native.Nat.{ℕ}
+use Prim.Native.Nat.{ℕ, _≤_}
 use mathlib.Core.Path.{_≡_, refl, sym, ap, ap₂, _∙_, subst}
 use mathlib.Core.Bool.{Bool, true, false, cond}
 use mathlib.Core.List.{List, [], _∷_}
@@ -13,16 +13,17 @@ use Rattle.slots.specs.Slots.{lowest, hasJob, atSlot}
 use Rattle.checked.specs.Answers.{Reply, refusal, done, overwritten}
 use Rattle.counts.specs.declared.Row.{Row}
 use Rattle.counts.specs.declared.Row.the-variants.{Right, Wrong}
-use Rattle.counts.specs.Counts.{shelfWords, testRow, onRow, rowIn, cleared}
+use Rattle.counts.specs.Counts.{shelfWords, countIn, testRow, onRow, rowIn, cleared}
 use Rattle.shelf.specs.Shelf.{forgetReply, Layout, layoutIn, spanOf, fromSociety, onWhole, fromWhole, keepReply, forgotReply}
 use Rattle.checked.specs.Checked.{checkedOf}
-use Rattle.shelf.specs.Calls.{Call, keep, fetch, forget, own, clear, named, names, namesOther, after, said}
+use Rattle.shelf.specs.Calls.{Own, Call, keep, fetch, forget, own, clear, named, names, namesOther, after, said}
 use Rattle.shelf.proofs.Lengths.{clear-right}
 use Rattle.bench.specs.Answers.{hasFour, leftFor, Says}
 use Rattle.claims.specs.Lists.{Kept, emptied, keptAfter}
-use Rattle.claims.specs.Seen.{Made, keeps, fetches, forgets, clears, callOf, answerLent, Seen, Makes, MakesAll, seenOf, listsLeft, listsSeen, withoutOthers, ownSeen}
+use Rattle.claims.specs.Seen.{Made, keeps, fetches, forgets, clears, callOf, answerLent, Seen, Makes, MakesAll, seenOf, listsLeft, listsSeen, withoutOthers, ownSeen, ownMade, NoClearing}
+use Rattle.claims.specs.LastKept.{ClearedWith}
 use Rattle.claims.proofs.EightLists.{Stands, cleared-stands, stands-after, stands-said}
-use Rattle.claims.proofs.NoNeighbour.{not-this, Alike, stays-alike, left-alike, told-alike}
+use Rattle.claims.proofs.NoNeighbour.{not-this, Alike, stays-alike, left-alike, told-alike, Near, told-near, own-near, other-near, near-cleared, near-itself}
 
 -- ---- keep, forget and clear hand out no values
 abbrev NoValues : Reply → Type 0
@@ -206,3 +207,55 @@ seen-same s (made ∷ mades) xs ys k =
 pub alone-seen : (society : ℕ) (mades : List Made) (xs : List ℕ)
     → ownSeen society mades (shelfSeen xs mades) ≡ ownSeen society (withoutOthers society mades) (shelfSeen xs (withoutOthers society mades))
 alone-seen society mades xs = seen-same society mades xs xs (record { long = refl; row = refl; span = λ h. refl })
+
+-- ---- own calls and own count
+module _ (s : ℕ) (m : s ≤ 7) (xs ys : List ℕ) (k : Near s xs ys) (made : Made) (call : Own) (e : callOf made ≡ own call) where
+  -- the call that was made is the society's own, or another's
+  named-so : (b : Bool) → names s (callOf made) ≡ b → names s (own call) ≡ b
+  named-so b n = ap (names s) (sym e) ∙ n
+
+  near-told : names s (callOf made) ≡ true → said xs (callOf made) ≡ said ys (callOf made)
+  near-told n = ap {B = Reply} (said xs) e ∙ told-near s m xs ys k call (named-so true n) ∙ ap {B = Reply} (said ys) (sym e)
+
+  near-own : names s (callOf made) ≡ true → Near s (leftOn xs made) (leftOn ys made)
+  near-own n = go (hasFour (answerLent made))
+    where
+      go : (b : Bool) → Near s (if b then after xs (callOf made) else xs) (if b then after ys (callOf made) else ys)
+      go true = subst (λ (c : Call). Near s (after xs c) (after ys c)) (sym e) (own-near s m xs ys k call (named-so true n))
+      go false = k
+
+  near-other : names s (callOf made) ≡ false → Near s (leftOn xs made) ys
+  near-other n = go (hasFour (answerLent made))
+    where
+      go : (b : Bool) → Near s (if b then after xs (callOf made) else xs) ys
+      go true = subst (λ (c : Call). Near s (after xs c) ys) (sym e) (other-near s m xs ys k call (named-so false n))
+      go false = k
+
+seen-near : (s : ℕ) → s ≤ 7 → (mades : List Made) → NoClearing mades → (xs ys : List ℕ) → Near s xs ys → ownSeen s mades (shelfSeen xs mades) ≡ ownSeen s (ownMade s mades) (shelfSeen ys (ownMade s mades))
+seen-near s m [] none xs ys k = refl
+seen-near s m (made ∷ mades) none xs ys k =
+    go (names s (callOf made)) refl
+    (λ n. seen-near s m mades (none .2) (leftOn xs made) (leftOn ys made) (near-own s m xs ys k made (none .0) (none .1) n))
+    (λ n. seen-near s m mades (none .2) (leftOn xs made) ys (near-other s m xs ys k made (none .0) (none .1) n))
+  where
+    its : (shelf : List ℕ) → List Made → List Seen
+    its shelf others = ownSeen s others (shelfSeen shelf others)
+
+    seen : (shelf : List ℕ) → Seen
+    seen shelf = seenOf made (said shelf (callOf made))
+
+    go : (b : Bool) → names s (callOf made) ≡ b → (names s (callOf made) ≡ true → its (leftOn xs made) mades ≡ its (leftOn ys made) (ownMade s mades))
+        → (names s (callOf made) ≡ false → its (leftOn xs made) mades ≡ its ys (ownMade s mades))
+        → cond b (seen xs ∷ its (leftOn xs made) mades) (its (leftOn xs made) mades) ≡ its ys (cond b (made ∷ ownMade s mades) (ownMade s mades))
+    go true n p q =
+        ap₂ (λ (r : Seen) (rs : List Seen). r ∷ rs) (ap (seenOf made) (near-told s m xs ys k made (none .0) (none .1) n)) (p n)
+        ∙ sym (ap (λ (o : Bool). cond o (seen ys ∷ its (leftOn ys made) (ownMade s mades)) (its (leftOn ys made) (ownMade s mades))) n)
+    go false n p q = q n
+
+pub decided-seen : (society : ℕ) → society ≤ 7 → (counts others xs ys : List ℕ) → ClearedWith counts xs → ClearedWith others ys → countIn (rowIn counts) society ≡ countIn (rowIn others) society
+    → (mades more : List Made) → NoClearing mades → NoClearing more → ownMade society mades ≡ ownMade society more
+    → ownSeen society mades (shelfSeen xs mades) ≡ ownSeen society more (shelfSeen ys more)
+decided-seen s m counts others xs ys cx cy ec mades more a b e =
+    seen-near s m mades a xs ys (near-cleared s m counts others xs ys cx cy ec)
+    ∙ ap (λ (own-calls : List Made). ownSeen s own-calls (shelfSeen ys own-calls)) e
+    ∙ sym (seen-near s m more b ys ys (near-itself s m counts others xs ys cx cy ec))

@@ -18,7 +18,8 @@ use Rattle.bench.specs.Calls.{CheckSays, ProposeSays, ReadSays, WriteSays, Shel
 use Rattle.claims.specs.Read.{jobIn, valuesIn}
 use Rattle.claims.specs.Meets.{NoneBelow}
 use Rattle.claims.specs.Lists.{emptied}
-use Rattle.claims.specs.Seen.{Made, clears, Seen, MakesAll, listsSeen, withoutOthers, ownSeen}
+use Rattle.claims.specs.LastKept.{ClearedWith}
+use Rattle.claims.specs.Seen.{Made, clears, Seen, MakesAll, listsSeen, withoutOthers, ownSeen, ownMade, NoClearing}
 
 -- What a call may claim of the number that it returns, of its answer slice, and of the slice that it writes to.
 abbrev pub Claim : Type 0 → Type 1
@@ -134,3 +135,14 @@ NoNeighbourSeen =
     (society : ℕ) (mades : List Made) (shelf : List ℕ) (seens fewer : List Seen)
     → MakesAll mades shelf seens → MakesAll (withoutOthers society mades) shelf fewer
     → ownSeen society mades seens ≡ ownSeen society (withoutOthers society mades) fewer
+
+-- "its answers depend only on its own calls since the last clearing and that count": two shelves of any words are cleared, each with counts that are
+-- allowed and that give the society one count, and then calls are made, no clearing among them, of which those that name the society are the same, with
+-- the same slices. What C sees of these is the same, whatever the other societies' counts and calls are.
+abbrev pub OwnCallsSeen : Type 0
+OwnCallsSeen =
+    (society : ℕ) → society ≤ 7 → (counts others xs ys : List ℕ) → ClearedWith counts xs → ClearedWith others ys
+    → countIn (rowIn counts) society ≡ countIn (rowIn others) society
+    → (mades more : List Made) → NoClearing mades → NoClearing more → ownMade society mades ≡ ownMade society more
+    → (seens others-seen : List Seen) → MakesAll mades xs seens → MakesAll more ys others-seen
+    → ownSeen society mades seens ≡ ownSeen society more others-seen

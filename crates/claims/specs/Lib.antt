@@ -8,6 +8,7 @@ pub mod Lists
 pub mod Heard
 pub mod LastKept
 pub mod Fetched
+pub mod CountsPromises
 pub mod ShelfPromises
 pub mod HousePromises
 pub mod Seen

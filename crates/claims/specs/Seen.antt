@@ -7,7 +7,7 @@ use mathlib.Core.List.{List, [], _∷_}
 use lib.ListN.{length}
 use Rattle.numbers.specs.Choice.{if_then_else_}
 use Rattle.checked.specs.Answers.{Reply, overwritten}
-use Rattle.shelf.specs.Calls.{Call, keep, fetch, forget, own, clear, names, namesOther}
+use Rattle.shelf.specs.Calls.{Own, Call, keep, fetch, forget, own, clear, names, namesOther}
 use Rattle.bench.specs.Answers.{hasFour, returnedFor, writtenFor, leftFor}
 use Rattle.bench.specs.Calls.{ShelfSays, FetchSays}
 use Rattle.claims.specs.Lists.{Kept, keptAfter, keptSay}
@@ -85,3 +85,12 @@ abbrev pub ownSeen : (society : ℕ) → List Made → List Seen → List Seen
 ownSeen society [] seens = []
 ownSeen society (made ∷ mades) [] = []
 ownSeen society (made ∷ mades) (seen ∷ seens) = cond (names society (callOf made)) (seen ∷ ownSeen society mades seens) (ownSeen society mades seens)
+
+-- the calls made that name the society, and that none of the calls made is a clearing
+abbrev pub ownMade : (society : ℕ) → List Made → List Made
+ownMade society [] = []
+ownMade society (made ∷ mades) = cond (names society (callOf made)) (made ∷ ownMade society mades) (ownMade society mades)
+
+abbrev pub NoClearing : List Made → Type 0
+NoClearing [] = Unit {0}
+NoClearing (made ∷ mades) = (call : Own) × (callOf made ≡ own call) × NoClearing mades

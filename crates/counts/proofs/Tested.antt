@@ -12,7 +12,7 @@ use Rattle.slots.specs.declared.Slot.{Slot}
 use Rattle.slots.specs.declared.Slot.the-variants.{At, Nowhere}
 use Rattle.slots.specs.Slots.{slotWords, lowest, pick, later, atSlot}
 use Rattle.slots.proofs.Lowest.{first-word}
-use Rattle.slots.proofs.Sizes.{no-slot, found-below}
+use Rattle.slots.proofs.Sizes.{at-inj, no-slot, found-below}
 use Rattle.counts.specs.declared.Row.{Row}
 use Rattle.counts.specs.declared.Row.the-variants.{Right, Wrong}
 use Rattle.counts.specs.Counts.{societies, mostSlots, allSlots, shelfWords, countIn, slotsOf, isWrong, lowestWrong, testTotal, testRow, rowIn, startIn, Ready}
@@ -39,20 +39,50 @@ module _ (row : List ℕ) (at : ℕ) where
       go false p true q f = let z : _≡_ {A = ℕ} 0 1 = cc in absurd (omega arith)
       go true p b q f = let z : _≡_ {A = ℕ} 0 1 = cc in absurd (omega arith)
 
--- where no slot passes a test, each fails it
-none-passes : (test : List ℕ → Bool) (c : ℕ) (s : List ℕ) → lowest test 1 c s ≡ Nowhere → (p : ℕ) → p < c → test (drop p s) ≡ false
-unfolding lowest
-none-passes test zero s e p h = absurd (omega arith)
-none-passes test (suc c) s e p h = go (test s) refl (lowest test 1 c (drop 1 s)) refl e (none-passes test c (drop 1 s)) p h
-  where
-    go : (b : Bool) → test s ≡ b → (o : Slot) → lowest test 1 c (drop 1 s) ≡ o → pick b (At 0) (later o) ≡ Nowhere
-        → (lowest test 1 c (drop 1 s) ≡ Nowhere → (p : ℕ) → p < c → test (drop p (drop 1 s)) ≡ false) → (p : ℕ) → p < suc c → test (drop p s) ≡ false
-    go true q o r f others p h = absurd (no-slot 0 (sym f))
-    go false q (At n) r f others p h = absurd (no-slot (suc n) (sym f))
-    go false q Nowhere r f others zero h = q
-    go false q Nowhere r f others (suc p) h =
-        let e : 1 + p ≡ suc p = omega arith in
-        ap test (ap (λ (k : ℕ). drop k s) (sym e) ∙ sym (drop-drop p 1 s)) ∙ others r p (omega arith)
+  -- and one that is wrong is not
+  wrong-count : isWrong (drop at row) ≡ true → (1 ≤ getD row at 0) × (getD row at 0 ≤ mostSlots) → ⊥
+  unfolding isWrong
+  wrong-count e h = clash (sym e ∙ sym (ap (λ (n : ℕ). ltb n 1 || ltb mostSlots n) (sym (first-word row at))) ∙ rw (le-ltb (getD row at 0) 1 (h .0), le-ltb mostSlots (getD row at 0) (h .1)))
+    where
+      clash : true ≡ false → ⊥
+      clash c = let z : _≡_ {A = ℕ} 0 1 = cc in omega (arith, z)
+
+-- ---- a search over slots of one word
+module _ (test : List ℕ → Bool) where
+  later-word : (i : ℕ) (s : List ℕ) → test (drop (suc i) s) ≡ test (drop i (drop 1 s))
+  later-word i s = let e : 1 + i ≡ suc i = omega arith in ap test (ap (λ (k : ℕ). drop k s) (sym e) ∙ sym (drop-drop i 1 s))
+
+  abbrev Fails : (c : ℕ) (s : List ℕ) → Type 0
+  Fails c s = (p : ℕ) → p < c → test (drop p s) ≡ false
+
+  fails-next : (c : ℕ) (s : List ℕ) → test s ≡ false → Fails c (drop 1 s) → Fails (suc c) s
+  fails-next c s e k zero h = e
+  fails-next c s e k (suc p) h = later-word p s ∙ k p (omega arith)
+
+  -- where none passes, each fails
+  none-passes : (c : ℕ) (s : List ℕ) → lowest test 1 c s ≡ Nowhere → Fails c s
+  unfolding lowest
+  none-passes zero s e = λ p h. absurd (omega arith)
+  none-passes (suc c) s e = go (test s) refl (lowest test 1 c (drop 1 s)) refl e (none-passes c (drop 1 s))
+    where
+      go : (b : Bool) → test s ≡ b → (o : Slot) → lowest test 1 c (drop 1 s) ≡ o → pick b (At 0) (later o) ≡ Nowhere → (lowest test 1 c (drop 1 s) ≡ Nowhere → Fails c (drop 1 s)) → Fails (suc c) s
+      go true q o r f others = absurd (no-slot 0 (sym f))
+      go false q (At n) r f others = absurd (no-slot (suc n) (sym f))
+      go false q Nowhere r f others = fails-next c s q (others r)
+
+  -- the one that is found passes, and each below it fails
+  abbrev Passes : (p : ℕ) (s : List ℕ) → Type 0
+  Passes p s = (test (drop p s) ≡ true) × Fails p s
+
+  found-passes : (c : ℕ) (s : List ℕ) (p : ℕ) → lowest test 1 c s ≡ At p → Passes p s
+  unfolding lowest
+  found-passes zero s p e = absurd (no-slot p e)
+  found-passes (suc c) s p e = go (test s) refl (lowest test 1 c (drop 1 s)) refl e (found-passes c (drop 1 s))
+    where
+      go : (b : Bool) → test s ≡ b → (o : Slot) → lowest test 1 c (drop 1 s) ≡ o → pick b (At 0) (later o) ≡ At p → ((n : ℕ) → lowest test 1 c (drop 1 s) ≡ At n → Passes n (drop 1 s)) → Passes p s
+      go true q o r f others = subst (λ (n : ℕ). Passes n s) (at-inj 0 p f) (q, λ i h. absurd (omega arith))
+      go false q (At n) r f others = let k = others n r in subst (λ (m : ℕ). Passes m s) (at-inj (suc n) p f) (later-word n s ∙ k .0, fails-next n s q (k .1))
+      go false q Nowhere r f others = absurd (no-slot p f)
 
 -- ---- the cases of the test
 module _ (row : List ℕ) where
@@ -86,6 +116,13 @@ row-inside row a s h = omega (arith, below-apart (countIn row) s societies h, a 
 -- every count is 1 to 16
 pub each-right : (row : List ℕ) → lowestWrong row ≡ Nowhere → (s : ℕ) → s < societies → (1 ≤ countIn row s) × (countIn row s ≤ mostSlots)
 each-right row e s h = right-count row s (none-passes isWrong societies row e s h)
+
+-- the lowest society whose count is not
+pub lowest-wrong-is : (row : List ℕ) (s : ℕ) → lowestWrong row ≡ At s
+    → (s < societies) × ((1 ≤ countIn row s) × (countIn row s ≤ mostSlots) → ⊥) × ((i : ℕ) → i < s → (1 ≤ countIn row i) × (countIn row i ≤ mostSlots))
+lowest-wrong-is row s e =
+    let f = found-passes isWrong societies row s e in
+    (found-below isWrong 1 societies row s e, wrong-count row s (f .0), λ i h. right-count row i (f .1 i h))
 
 pub right-allotted : (row : List ℕ) → testRow row ≡ Right → Allotted row
 unfolding testRow

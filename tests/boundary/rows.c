@@ -37,7 +37,7 @@ static void ten_ten_two(struct random *r, uint32_t *row)
 
 void row_allowed(struct random *r, uint32_t *row)
 {
-    static const uint32_t some[] = {1, 2, 10, MOST_SLOTS};
+    static const uint32_t some[] = {1, 2, 10, MOST_SLOTS, MOST_SLOTS};
     int64_t way = random_below(r, 10);
     same_for_all(row, 1);
     if (way == 0) {
@@ -46,7 +46,7 @@ void row_allowed(struct random *r, uint32_t *row)
         ten_ten_two(r, row);
     } else if (way > 2) {
         int64_t society = draft_society(r);
-        row[society] = some[random_below(r, 4)];
+        row[society] = some[random_below(r, 5)];
         add_slots(r, row, random_chance(r, 40) ? ALL_SLOTS : (uint32_t)random_between(r, total_of(row), ALL_SLOTS));
     }
 }
@@ -78,11 +78,11 @@ void row_spoil(struct random *r, uint32_t *row)
 {
     int64_t way = random_below(r, 20);
     if (way < 3)
-        add_slots(r, row, ALL_SLOTS + 1);
-    else if (way < 5)
-        add_slots(r, row, (uint32_t)random_between(r, ALL_SLOTS + 1, ALL_SLOTS + 8));
-    else if (way == 5)
         add_slots(r, row, (uint32_t)random_between(r, ALL_SLOTS + 1, SOCIETIES * MOST_SLOTS));
+    else if (way == 3)
+        add_slots(r, row, (uint32_t)random_between(r, ALL_SLOTS + 1, ALL_SLOTS + 8));
+    else if (way < 6)
+        add_slots(r, row, ALL_SLOTS + 1);
     else if (way == 6)
         for (int s = 0; s < SOCIETIES; s++)
             row[s] = odd_count(r, (uint32_t)random_below(r, MOST_SLOTS));

@@ -47,7 +47,7 @@ static void lend_answer(struct random *r, struct call *c)
 
 static void lend_shelf(struct random *r, struct call *c)
 {
-    const size_t odd[] = {0, ROW_WORDS, twin_start(shelf, SOCIETIES) - 1, SHELF_WORDS_2, SHELF_WORDS_3, SHELF_WORDS - 1, SHELF_WORDS + 1};
+    const size_t odd[] = {0, ROW_WORDS, twin_start(shelf, SOCIETIES), SHELF_WORDS_2, SHELF_WORDS_3, SHELF_WORDS - 1, SHELF_WORDS + 1};
     size_t count = random_chance(r, c->function == CLEAR ? 30 : 3) ? odd[random_below(r, 7)] : SHELF_WORDS;
     lend(c, shelf, count, sizeof *shelf, c->function != FETCH);
 }

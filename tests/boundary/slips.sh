@@ -62,4 +62,4 @@ done <tests/boundary/slips
 
 echo "$passed passed, $failed failed"
 # The twin against itself, and every slip of the list.
-[ "$failed" = 0 ] && [ "$passed" -gt 189 ]
+[ "$failed" = 0 ] && [ "$passed" -gt 276 ]

@@ -80,7 +80,7 @@
  * tables that it keeps. Each count is 1 to 16, their total at most 32. The societies' spans follow in their order, each of its count of slots, 287 words
  * a slot: society s begins at word 8 + 287 times the counts before it.
  *
- *     counts 10 2 2 2 10 2 2 2 (32 in all): society 0 begins at word 8, society 1 at 8 + 10*287 = 2878, society 4 at 8 + 16*287 = 4600
+ *     counts 2 10 2 2 10 2 2 2 (32 in all): society 0 begins at word 8, society 1 at 8 + 2*287 = 582, society 2 at 8 + 12*287 = 3452
  *
  * Only bench_clear sets the counts, and it empties every society, so changing the counts means keeping every table again. Keep, fetch and forget read the
  * row and then only their own society's span; none of them writes to the row. The words behind the last span, where the total is below 32, are never

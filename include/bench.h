@@ -84,7 +84,8 @@
  *
  * Only bench_clear sets the counts, and it empties every society, so changing the counts means keeping every table again. Keep, fetch and forget read the
  * row and then only their own society's span; none of them writes to the row. The words behind the last span, where the total is below 32, are never
- * written, not even by bench_clear. A shelf that was never cleared holds no row of counts: most likely keep, fetch and forget refuse it with 22.
+ * written, not even by bench_clear. A shelf that was never cleared has no row of counts: keep, fetch and forget most likely refuse it with 22, one of
+ * zeros with place 0.
  *
  * WHAT NOBODY CHECKS FOR A C CALLER
  *
@@ -93,7 +94,7 @@
  *   - No two slices of one call overlap, unless the call only reads both. The counts of bench_clear are no part of the shelf: copy its row to clear
  *     it with the counts that it has. A pointer to const is only read.
  *   - BENCH_STACK_BYTES of stack are free, or for a job that is no grid BENCH_LINE_STACK_BYTES: a call puts its working room there. In
- *     bytes, as measured: check 20,736, keep 21,936, fetch 20,640, read 17,080, write 17,144; propose 29,128 for a line and 57,976 for a
+ *     bytes, as measured: check 20,736, keep 21,968, fetch 20,640, read 17,080, write 17,144; propose 29,128 for a line and 57,976 for a
  *     grid; forget and clear below 100.
  *   - a call names the right society: every call acts for the society that its job pack or its argument names, whoever makes it.
  *
@@ -156,7 +157,7 @@ extern "C" {
 #define BENCH_MOST_CELLS 120
 #define BENCH_MOST_LINKS 160
 #define BENCH_MOST_TERMS 4
-#define BENCH_MOST_SOCIETY 7 /* societies are numbered from 0 */
+#define BENCH_MOST_SOCIETY (BENCH_SOCIETIES - 1) /* societies are numbered from 0 */
 
 /* The longest packs and lists: nothing longer is ever accepted, and an output of that length is never too short. */
 #define BENCH_MOST_JOB_BYTES 3586      /* a job pack: the output of bench_write */

@@ -2,8 +2,6 @@
 #include "rows.h"
 #include "drafts.h"
 
-#include <string.h>
-
 static uint32_t total_of(const uint32_t *row)
 {
     uint32_t total = 0;

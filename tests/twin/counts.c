@@ -36,6 +36,7 @@ static const struct row {
     {"2^32 - 1 slots for society 4", {1, 1, 1, 1, 4294967295, 1, 1, 1}, 22, 4},
     {"2^31 slots for societies 5 and 6, which 32 bits add to 0", {1, 1, 1, 1, 1, 2147483648, 2147483648, 1}, 22, 5},
     {"260 slots, whose low byte is 4", {4, 260, 4, 4, 4, 4, 4, 4}, 22, 1},
+    {"65,540 slots, whose low 16 bits are 4", {4, 4, 4, 4, 4, 4, 65540, 4}, 22, 6},
 };
 
 static void name_job(uint8_t society, uint8_t number)
@@ -153,6 +154,7 @@ static void pushes(uint32_t slots)
     expect(fetch(1, 50) == 3 * 32 && fetch(3, 51) == 3 * 32, "the neighbours' are there");
     expect(forget(2, 1) == 0 && run_of(0, 8 + (1 + slots) * 287) == 287, "a forgotten table leaves the last slot empty, and that alone");
     expect(slots == 1 || shelf[8 + 2 * 287 + 1] == 2, "and the next oldest in the first");
+    expect(memcmp(shelf, counts, sizeof counts) == 0, "no call but a clearing changes a count");
     expect(run_of(9, 8 + (7 + slots) * 287) == (25 - slots) * 287, "what is behind the last span stays");
 }
 

@@ -2,12 +2,12 @@
  *
  * The bench reads a job (one society's table to be graduated: a line of ages, or a grid for a select table), checks a proposed table with its
  * multipliers, makes a proposal of its own, and keeps accepted tables on a shelf that the caller lends. Document 01 has the rules, with request
- * W-205 for grids and W-203 for a fetch that checks; this page has what a caller needs.
+ * W-205 for grids, W-203 for a fetch that checks and W-209 for counts of slots; this page has what a caller needs.
  *
  * WHAT EVERY CALL DOES
  *
- * A slice is a pointer and then a count of its elements (bytes, 32-bit words or 64-bit words; never bytes for words). The last slice of each
- * call takes the answer: exactly BENCH_ANSWER_WORDS words, which become
+ * A slice is a pointer and then a count of its elements (bytes, 32-bit words or 64-bit words; never bytes for words); only the counts of bench_clear
+ * are an array of eight, a pointer alone. The last slice of each call takes the answer: exactly BENCH_ANSWER_WORDS words, which become
  *
  *     answer[0] number    answer[1] place    answer[2] loss F    answer[3] gap G
  *
@@ -15,7 +15,7 @@
  * table's F and G when done; they are 0 with every refusal and at every other call.
  *
  * A refusal (any number but 0) changes nothing that was lent, the answer slice excepted. A success leaves an output beyond what it writes
- * as it was. No call reads or writes anything but its slices; none allocates, prints, waits, keeps a pointer or has a state of its own.
+ * as it was. No call reads or writes anything but what it is lent; none allocates, prints, waits, keeps a pointer or has a state of its own.
  * Every call ends, for every input.
  *
  * THE NUMBERS
@@ -39,11 +39,13 @@
  *     12   fetch or forget: nothing kept under that number         0
  *          fetch: what is kept has another count of cells
  *          or links than the job
- *     13   answer slice not 4 words, shelf not 9,184,              4, 9,184, or
+ *     13   answer slice not 4 words, shelf not 9,192,              4, 9,192, or
  *          or output too short                                     the length needed, in the output's own elements
  *     20   house proposal: a grid of more than 12 columns          0
+ *     22   counts of slots not allowed: at clear those handed in,  lowest society whose count is not 1 to 16; if each is,
+ *          at keep, fetch and forget those found on the shelf      8 for a total above 32
  *
- * The first that applies is given, in this order: answer slice, shelf length; then the job pack from its first byte to its last (1 and 2
+ * The first that applies is given, in this order: answer slice, shelf length, 22; then the job pack from its first byte to its last (1 and 2
  * for each number, 3 after each ceiling, 4 after the last cell, 5 after each term, spare bytes last); then 6, 7, 8, 9, or for fetch 12, 6, 7, 8, 9,
  * or for propose 20, 10; for forget, which takes no pack, 11, then 12; and the output's length last. A wrong answer slice is not written to: only
  * the returned number tells it.
@@ -72,13 +74,27 @@
  * differences of the order down, down the columns, and the second constant times those of the order across, along the rows; no difference
  * runs over a row's end. Links, boxes and the shelf know no rows: a grid is n cells there.
  *
+ * THE SHELF
+ *
+ * A shelf is BENCH_SHELF_WORDS words of 32 bits, whatever the counts are. It begins with a row of eight words, each society's count of slots: the most
+ * tables that it keeps. Each count is 1 to 16, their total at most 32. The societies' spans follow in their order, each of its count of slots, 287 words
+ * a slot: society s begins at word 8 + 287 times the counts before it.
+ *
+ *     counts 2 10 2 2 10 2 2 2 (32 in all): society 0 begins at word 8, society 1 at 8 + 2*287 = 582, society 2 at 8 + 12*287 = 3452
+ *
+ * Only bench_clear sets the counts, and it empties every society, so changing the counts means keeping every table again. Keep, fetch and forget read the
+ * row and then only their own society's span; none of them writes to the row. The words behind the last span, where the total is below 32, are never
+ * written, not even by bench_clear. A shelf that was never cleared has no row of counts: keep, fetch and forget most likely refuse it with 22, one of
+ * zeros with place 0.
+ *
  * WHAT NOBODY CHECKS FOR A C CALLER
  *
  *   - No pointer is null, even where the count is 0: pass any valid address.
- *   - Each count is true, and each pointer is aligned for its elements.
- *   - No two slices of one call overlap, unless the call only reads both. A pointer to const is only read.
+ *   - Each slice's count is true, the counts of bench_clear are eight words, and each pointer is aligned for its elements.
+ *   - No two slices of one call overlap, unless the call only reads both. The counts of bench_clear are no part of the shelf: copy its row to clear
+ *     it with the counts that it has. A pointer to const is only read.
  *   - BENCH_STACK_BYTES of stack are free, or for a job that is no grid BENCH_LINE_STACK_BYTES: a call puts its working room there. In
- *     bytes, as measured: check 20,736, keep 21,936, fetch 20,640, read 17,080, write 17,144; propose 29,128 for a line and 57,976 for a
+ *     bytes, as measured: check 20,736, keep 21,968, fetch 20,640, read 17,080, write 17,144; propose 29,128 for a line and 57,976 for a
  *     grid; forget and clear below 100.
  *   - a call names the right society: every call acts for the society that its job pack or its argument names, whoever makes it.
  *
@@ -112,7 +128,12 @@ extern "C" {
 
 /* Lengths that must be met exactly. */
 #define BENCH_ANSWER_WORDS 4   /* 64-bit words of an answer slice */
-#define BENCH_SHELF_WORDS 9184 /* 32-bit words of a shelf: 8 societies of 4 slots of 287 */
+#define BENCH_SHELF_WORDS 9192 /* 32-bit words of a shelf: a row of 8 counts, and room for 32 slots of 287 */
+
+/* Counts of slots. */
+#define BENCH_SOCIETIES 8   /* words of the row on the shelf, and of the counts that bench_clear takes */
+#define BENCH_MOST_SLOTS 16 /* of one society; the least is 1 */
+#define BENCH_ALL_SLOTS 32  /* of all societies together, at most */
 
 /* The version of this page, which rises when a call, a number or a length changes.
  *   1  the eight calls
@@ -120,11 +141,13 @@ extern "C" {
  *      20 for a grid too wide for the house proposal; the stack of lines and of grids told apart
  *   3  a fetch that checks: bench_fetch takes the job pack in place of society and job number, checks what is kept against it, and so gives 1 to 9
  *      too and never 11; a slot has 287 words, with the link count and the multipliers, so BENCH_SHELF_WORDS is 9,184
+ *   4  counts of slots: the shelf begins with a row of eight counts, so BENCH_SHELF_WORDS is 9,192; bench_clear takes the counts; 22 for counts not
+ *      allowed, at every call on the shelf
  *
- * Moving from version 2: a shelf of version 2 has 4,032 words and no multipliers, so nothing on it could be checked. No call takes it (13) or
- * turns it into a shelf of version 3. Lend 9,184 words, clear them with bench_clear, and keep each table again from its job pack and proposal
- * pack. Wherever the portal fetches, it hands in the job pack that it has of the society today. */
-#define BENCH_VERSION 3
+ * Moving from version 3: a shelf of version 3 has 9,184 words and no row, and no call takes it (13) or turns it into a shelf of version 4. Lend 9,192
+ * words, clear them with the counts wanted, and keep each table again from its job pack and proposal pack, each society's oldest first. With four for
+ * each society everything is as it was before. */
+#define BENCH_VERSION 4
 
 /* No call needs more stack than this, and none on a job that is no grid more than the second. */
 #define BENCH_STACK_BYTES 65536
@@ -134,7 +157,7 @@ extern "C" {
 #define BENCH_MOST_CELLS 120
 #define BENCH_MOST_LINKS 160
 #define BENCH_MOST_TERMS 4
-#define BENCH_MOST_SOCIETY 7 /* societies are numbered from 0 */
+#define BENCH_MOST_SOCIETY (BENCH_SOCIETIES - 1) /* societies are numbered from 0 */
 
 /* The longest packs and lists: nothing longer is ever accepted, and an output of that length is never too short. */
 #define BENCH_MOST_JOB_BYTES 3586      /* a job pack: the output of bench_write */
@@ -159,7 +182,8 @@ enum bench_number {
     BENCH_NO_SUCH_SOCIETY = 11,
     BENCH_NOTHING_KEPT = 12,
     BENCH_WRONG_LENGTH = 13,
-    BENCH_GRID_TOO_WIDE = 20
+    BENCH_GRID_TOO_WIDE = 20,
+    BENCH_BAD_COUNTS = 22
 };
 
 /* The number and the place of what a call returned. */
@@ -178,10 +202,11 @@ uint64_t bench_check(const uint8_t *job, size_t job_bytes, const uint8_t *propos
 uint64_t bench_propose(const uint8_t *job, size_t job_bytes, uint8_t *out, size_t out_bytes,
                        uint64_t *answer, size_t answer_words);
 
-/* Checks as bench_check does and, if it accepts, keeps the table on the shelf among its society's four: in the slot that has the job
- * already, else in the lowest empty one, else slot 0's table goes and the others move down by one. The multipliers are kept with the values, and
- * F and G too. Done: F and G as in the check, place 0. It never reads or writes another society's words. A shelf may hold any words, but only one
- * that was cleared first holds lists that mean something. Numbers: 0 to 9, 13. */
+/* Checks as bench_check does and, if it accepts, keeps the table on the shelf among its society's own, as many as its count: in the slot that has the
+ * job already, else in the lowest empty one, else slot 0's table goes and the others move down by one, so that with a count of 1 the new table takes
+ * the place of the only one. The multipliers are kept with the values, and F and G too. Done: F and G as in the check, place 0. It reads the row of counts
+ * and never reads or writes another society's span. Spans may hold any words, but only a shelf that was cleared first holds lists that mean
+ * something. Numbers: 0 to 9, 13, 22. */
 uint64_t bench_keep(uint32_t *shelf, size_t shelf_words, const uint8_t *job, size_t job_bytes,
                     const uint8_t *proposal, size_t proposal_bytes, uint64_t *answer, size_t answer_words);
 
@@ -192,18 +217,20 @@ uint64_t bench_keep(uint32_t *shelf, size_t shelf_words, const uint8_t *job, siz
  * 12 if nothing is kept under the number, or if what is kept has another n or another count of links; then 6 for a kept number that is not
  * allowed, which a shelf that was cleared first and then written by these calls alone never has; then 7, 8, 9 as at the check. Only the counts are
  * compared: a table that was kept for a line is checked for a grid of as many cells and links as well. Never writes to the shelf: a table that is
- * refused stays there. Numbers: 0 to 9, 12, 13. */
+ * refused stays there. Numbers: 0 to 9, 12, 13, 22. */
 uint64_t bench_fetch(const uint32_t *shelf, size_t shelf_words, const uint8_t *job, size_t job_bytes,
                      uint32_t *out, size_t out_words, uint64_t *answer, size_t answer_words);
 
-/* Removes the table that a society keeps under a job number, whatever its counts; its later tables move down by one slot. Done: place 0. Numbers:
- * 0, 11, 12, 13. */
+/* Removes the table that a society keeps under a job number, whatever its counts of cells and links; its later tables move down by one slot, and its last
+ * slot becomes empty. Done: place 0. Numbers: 0, 11, 12, 13, 22. */
 uint64_t bench_forget(uint32_t *shelf, size_t shelf_words, uint32_t society, uint32_t job,
                       uint64_t *answer, size_t answer_words);
 
-/* Empties the whole shelf, every society's part: every word becomes 0. It is the house's own call and the way to begin. Done: place 0.
- * Numbers: 0, 13. */
-uint64_t bench_clear(uint32_t *shelf, size_t shelf_words, uint64_t *answer, size_t answer_words);
+/* Empties the whole shelf, every society's part, and gives each society its count of slots: `counts` is an array of eight, society 0 first, passed
+ * without a length. It is the house's own call, the way to begin, and the only way to change counts. The shelf may hold any words; the row that it has is
+ * not looked at. Done: the counts stand in the row, every word of the spans is 0, the words behind the last span stay as they were; place 0.
+ * Numbers: 0, 13, 22. */
+uint64_t bench_clear(uint32_t *shelf, size_t shelf_words, const uint32_t counts[BENCH_SOCIETIES], uint64_t *answer, size_t answer_words);
 
 /* Reads a job pack into its numbers, in pack order, coefficients and bounds with their signs. Done: the place is the count of numbers. An
  * order field 0 (the house order 2) stays 0. Numbers: 0 to 5, 13. */

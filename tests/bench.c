@@ -13,22 +13,26 @@
 #include <time.h>
 #include <ucontext.h>
 
-enum { ROUNDS = 15, STACK_BYTES = 1 << 20, PAINT = 0xC5, SPAN = SLOTS * SLOT_WORDS };
+enum { ROUNDS = 15, STACK_BYTES = 1 << 20, PAINT = 0xC5 };
 
-/* What all calls of one input work on. The shelf has the table, and `span` is its society's part of it. */
+/* What all calls of one input work on. The shelf has these counts of slots. The table's society has all its slots full, the table in the first, and
+ * `span` is what they hold. */
 static struct draft draft;
 static struct numbers list;
 static struct bytes job, proposal;
 static struct words words;
-static uint32_t shelf[SHELF_WORDS], span[SPAN], values[MOST_CELLS];
+static uint32_t counts[SOCIETIES], shelf[SHELF_WORDS], span[MOST_SLOTS * SLOT_WORDS], values[MOST_CELLS];
 static uint64_t answer[ANSWER_WORDS];
 static int64_t word_room[BENCH_MOST_JOB_WORDS];
 static uint8_t byte_room[BENCH_MOST_JOB_BYTES];
 
+static uint32_t *own_span(void) { return shelf + twin_start(counts, (uint32_t)draft.job.society); }
+static size_t own_words(void) { return counts[draft.job.society] * SLOT_WORDS; }
+
 /* forget finds its table put back before every call; the time of that is in both sides' time. */
 static void put_back(void)
 {
-    memcpy(shelf + SPAN * draft.job.society, span, sizeof span);
+    memcpy(own_span(), span, own_words() * sizeof *span);
 }
 
 static uint64_t on_bench(enum function function)
@@ -40,7 +44,7 @@ static uint64_t on_bench(enum function function)
     case KEEP: return bench_keep(shelf, SHELF_WORDS, job.at, job.count, proposal.at, proposal.count, answer, ANSWER_WORDS);
     case FETCH: return bench_fetch(shelf, SHELF_WORDS, job.at, job.count, values, MOST_CELLS, answer, ANSWER_WORDS);
     case FORGET: return put_back(), bench_forget(shelf, SHELF_WORDS, society, number, answer, ANSWER_WORDS);
-    case CLEAR: return bench_clear(shelf, SHELF_WORDS, answer, ANSWER_WORDS);
+    case CLEAR: return bench_clear(shelf, SHELF_WORDS, counts, answer, ANSWER_WORDS);
     case READ: return bench_read(job.at, job.count, word_room, BENCH_MOST_JOB_WORDS, answer, ANSWER_WORDS);
     default: return bench_write(words.at, words.count, byte_room, sizeof byte_room, answer, ANSWER_WORDS);
     }
@@ -55,7 +59,7 @@ static uint64_t on_twin(enum function function)
     case KEEP: return twin_keep(shelf, SHELF_WORDS, job.at, job.count, proposal.at, proposal.count, answer, ANSWER_WORDS);
     case FETCH: return twin_fetch(shelf, SHELF_WORDS, job.at, job.count, values, MOST_CELLS, answer, ANSWER_WORDS);
     case FORGET: return put_back(), twin_forget(shelf, SHELF_WORDS, society, number, answer, ANSWER_WORDS);
-    case CLEAR: return twin_clear(shelf, SHELF_WORDS, answer, ANSWER_WORDS);
+    case CLEAR: return twin_clear(shelf, SHELF_WORDS, counts, answer, ANSWER_WORDS);
     case READ: return twin_read(job.at, job.count, word_room, BENCH_MOST_JOB_WORDS, answer, ANSWER_WORDS);
     default: return twin_write(words.at, words.count, byte_room, sizeof byte_room, answer, ANSWER_WORDS);
     }
@@ -66,20 +70,42 @@ static uint64_t on_side(int side, enum function function)
     return side == 0 ? on_bench(function) : on_twin(function);
 }
 
-static void use_draft(void)
+/* So many slots for the table's society and for another, and so many for each of the rest. */
+static void use_counts(uint32_t two, uint32_t others)
 {
+    for (int s = 0; s < SOCIETIES; s++)
+        counts[s] = others;
+    counts[draft.job.society] = counts[(draft.job.society + 1) % SOCIETIES] = two;
+}
+
+/* The slots after the first get the same table under other numbers. */
+static void fill_span(void)
+{
+    for (size_t at = SLOT_WORDS; at < own_words(); at += SLOT_WORDS) {
+        memcpy(span + at, span, SLOT_WORDS * sizeof *span);
+        span[at + AT_JOB] = span[at + AT_JOB - SLOT_WORDS] + 1;
+    }
+}
+
+static void use_draft(uint32_t two, uint32_t others)
+{
+    use_counts(two, others);
     numbers_of_job(&draft.job, &list);
     numbers_pack(&list, &job);
     numbers_words(&list, &words);
     numbers_of_proposal(&draft, &list);
     numbers_pack(&list, &proposal);
-    memset(shelf, 0, sizeof shelf);
-    if (on_twin(KEEP) != 0) {
+    if (on_twin(CLEAR) != 0 || on_twin(KEEP) != 0) {
         printf("FAILED  the input is not accepted\n");
         exit(1);
     }
-    memcpy(span, shelf + SPAN * draft.job.society, sizeof span);
+    memcpy(span, own_span(), SLOT_WORDS * sizeof *span);
+    fill_span();
+    put_back();
 }
+
+static void use_four(void) { use_draft(4, 4); }
+static void use_ten(void) { use_draft(10, 2); }
 
 /* Document 01's worked example. */
 static void use_small(void)
@@ -88,21 +114,21 @@ static void use_small(void)
     const int64_t v[] = {2, 3, 2};
     twin_read_job(pack, sizeof pack, &draft.job);
     memcpy(draft.table.value, v, sizeof v);
-    use_draft();
+    use_four();
 }
 
 static void use_full(int64_t order)
 {
     struct random random = {(uint64_t)order};
     draft_full(&random, order, &draft);
-    use_draft();
+    use_four();
 }
 
 static void use_full_grid(int64_t columns, int64_t down, int64_t across)
 {
     struct random random = {(uint64_t)columns};
     draft_full_grid(&random, columns, down, across, &draft);
-    use_draft();
+    use_four();
 }
 
 /* The processor's time, so that other programs on the machine count less. */
@@ -219,11 +245,11 @@ static bool stack_within(void)
     return within;
 }
 
-/* A line of the table for each call on the input that is in use. */
-static void measure(const char *input, bool stack_alone)
+/* A line of the table for each call from `first` to `last` on the input that is in use. */
+static void measure_some(const char *input, bool stack_alone, int first, int last)
 {
     size_t none = stack_of(0, FUNCTIONS);
-    for (int f = 0; f < FUNCTIONS; f++) {
+    for (int f = first; f <= last; f++) {
         enum function function = (enum function)f;
         struct timing timing = {0, 0, 0};
         same_work(function, input);
@@ -239,6 +265,14 @@ static void measure(const char *input, bool stack_alone)
     }
 }
 
+/* Every call where each society has four slots, then those on a shelf where two have ten and the others two. */
+static void measure(const char *input, const char *with_ten, bool stack_alone)
+{
+    measure_some(input, stack_alone, 0, FUNCTIONS - 1);
+    use_ten();
+    measure_some(with_ten, stack_alone, KEEP, CLEAR);
+}
+
 int main(int argc, char **argv)
 {
     bool stack_alone = argc > 1 && strcmp(argv[1], "stack") == 0;
@@ -247,14 +281,14 @@ int main(int argc, char **argv)
            ROUNDS);
     printf("%-9s%-16s%12s%12s%8s%12s%12s\n", "call", "input", "bench", "twin", "ratio", "stack", "twin's");
     use_full(4);
-    measure("full, order 4", stack_alone);
+    measure("full, order 4", "full, ten slots", stack_alone);
     use_full(2);
-    measure("full, order 2", stack_alone);
+    measure_some("full, order 2", stack_alone, 0, FUNCTIONS - 1);
     use_small();
-    measure("n 3", stack_alone);
+    measure("n 3", "n 3, ten slots", stack_alone);
     use_full_grid(12, 4, 4);
-    measure("grid 10x12", stack_alone);
+    measure_some("grid 10x12", stack_alone, 0, FUNCTIONS - 1);
     use_full_grid(2, 2, 1);
-    measure("grid 60x2", stack_alone);
+    measure_some("grid 60x2", stack_alone, 0, FUNCTIONS - 1);
     return stack_within() ? 0 : 1;
 }

@@ -20,7 +20,7 @@ static uint64_t on_bench(const struct call *c, void *const *p)
     case KEEP: return bench_keep(p[0], s[0].count, p[1], s[1].count, p[2], s[2].count, p[3], s[3].count);
     case FETCH: return bench_fetch(p[0], s[0].count, p[1], s[1].count, p[2], s[2].count, p[3], s[3].count);
     case FORGET: return bench_forget(p[0], s[0].count, c->society, c->job, p[1], s[1].count);
-    case CLEAR: return bench_clear(p[0], s[0].count, p[1], s[1].count);
+    case CLEAR: return bench_clear(p[0], s[0].count, p[1], p[2], s[2].count);
     case READ: return bench_read(p[0], s[0].count, p[1], s[1].count, p[2], s[2].count);
     default: return bench_write(p[0], s[0].count, p[1], s[1].count, p[2], s[2].count);
     }
@@ -35,7 +35,7 @@ static uint64_t on_twin(const struct call *c, void *const *p)
     case KEEP: return twin_keep(p[0], s[0].count, p[1], s[1].count, p[2], s[2].count, p[3], s[3].count);
     case FETCH: return twin_fetch(p[0], s[0].count, p[1], s[1].count, p[2], s[2].count, p[3], s[3].count);
     case FORGET: return twin_forget(p[0], s[0].count, c->society, c->job, p[1], s[1].count);
-    case CLEAR: return twin_clear(p[0], s[0].count, p[1], s[1].count);
+    case CLEAR: return twin_clear(p[0], s[0].count, p[1], p[2], s[2].count);
     case READ: return twin_read(p[0], s[0].count, p[1], s[1].count, p[2], s[2].count);
     default: return twin_write(p[0], s[0].count, p[1], s[1].count, p[2], s[2].count);
     }

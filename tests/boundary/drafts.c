@@ -12,11 +12,16 @@ static int64_t smaller(int64_t a, int64_t b) { return a < b ? a : b; }
 static int64_t larger(int64_t a, int64_t b) { return a > b ? a : b; }
 static int64_t within(int64_t x, int64_t low, int64_t high) { return smaller(larger(x, low), high); }
 
+int64_t draft_society(struct random *r)
+{
+    return random_chance(r, 70) ? random_below(r, 2) * (SOCIETIES - 1) : random_below(r, SOCIETIES);
+}
+
 /* About a third of all jobs are grids. */
 static void draw_header(struct random *r, struct twin_job *job)
 {
     static const int64_t numbers[] = {6, 127, 128, 16384, 4294967295};
-    job->society = random_chance(r, 70) ? random_below(r, 2) * 7 : random_below(r, 8);
+    job->society = draft_society(r);
     job->number = random_chance(r, 80) ? random_below(r, 6) : random_between(r, 0, numbers[random_below(r, 5)]);
     if (random_chance(r, 34))
         shape_draw_grid(r, job);

@@ -10,6 +10,9 @@ struct draft {
     struct twin_table table;
 };
 
+/* A society: the first and the last more often than others, so that some get many calls. */
+int64_t draft_society(struct random *r);
+
 /* A draft that the check accepts, or refuses with 9 alone. Its tolerance is often its gap, or one off. */
 void draft_make(struct random *r, struct draft *draft);
 

@@ -5,14 +5,17 @@
 #include <stdio.h>
 #include <string.h>
 
-/* A fetch by the job pack came with version 3. */
-#if BENCH_VERSION < 3
+/* Counts of slots came with version 4. */
+#if BENCH_VERSION < 4
 #error "include/bench.h is older than this caller"
 #endif
 
 static int passed, failed;
 static uint64_t answer[BENCH_ANSWER_WORDS];
 static uint32_t shelf[BENCH_SHELF_WORDS];
+
+/* Four slots for each society, as all had before version 4. They fill the shelf. */
+static const uint32_t FOUR[BENCH_SOCIETIES] = {4, 4, 4, 4, 4, 4, 4, 4};
 
 /* Three cells with crude rates 0 7 0, weights 1, boxes 0..100, order 2, constant 1, tolerance 0, no links: document 01's worked example. */
 static const uint8_t JOB[] = {3, 7, 3, 2, 1, 0, 0, 1, 0, 100, 7, 1, 0, 100, 0, 1, 0, 100, 0};
@@ -66,9 +69,29 @@ static uint64_t forget(uint32_t society, uint32_t job)
     return bench_forget(shelf, BENCH_SHELF_WORDS, society, job, answer, BENCH_ANSWER_WORDS);
 }
 
+static uint64_t clear_to(const uint32_t *counts)
+{
+    return bench_clear(shelf, BENCH_SHELF_WORDS, counts, answer, BENCH_ANSWER_WORDS);
+}
+
 static void clear(void)
 {
-    bench_clear(shelf, BENCH_SHELF_WORDS, answer, BENCH_ANSWER_WORDS);
+    clear_to(FOUR);
+}
+
+/* Whether the row has these counts and every word from `from` to `to` is `word`. */
+static int shelf_is(const uint32_t *counts, size_t from, size_t to, uint32_t word)
+{
+    int same = memcmp(shelf, counts, BENCH_SOCIETIES * sizeof *counts) == 0;
+    for (size_t i = from; i < to; i++)
+        same = same && shelf[i] == word;
+    return same;
+}
+
+/* Where each society has four slots, a shelf that is empty. */
+static int shelf_is_empty(void)
+{
+    return shelf_is(FOUR, BENCH_SOCIETIES, BENCH_SHELF_WORDS, 0);
 }
 
 static void checks(void)
@@ -87,12 +110,9 @@ static void shelf_is_kept(void)
 {
     uint8_t other[sizeof JOB];
     uint32_t out[5] = {9, 9, 9, 9, 9};
-    uint32_t sum = 0;
     memset(shelf, 0xFF, sizeof shelf);
-    expect_answer(bench_clear(shelf, BENCH_SHELF_WORDS, answer, BENCH_ANSWER_WORDS), BENCH_DONE, 0, 0, 0, "clear");
-    for (size_t i = 0; i < BENCH_SHELF_WORDS; i++)
-        sum |= shelf[i];
-    expect(sum == 0, "clearing sets every word to 0");
+    expect_answer(clear_to(FOUR), BENCH_DONE, 0, 0, 0, "clear");
+    expect(shelf_is_empty(), "clearing sets the counts, and every word of the spans to 0");
     expect_answer(keep(JOB, sizeof JOB, PROPOSAL, 3), BENCH_DONE, 0, 28, 0, "keep");
     expect_answer(fetch(JOB, sizeof JOB, out, 5), BENCH_DONE, 3, 28, 0, "fetch gives the count of values, F and G");
     expect(out[0] == 2 && out[1] == 3 && out[2] == 2 && out[3] == 9 && out[4] == 9, "fetch writes three values and no more");
@@ -101,10 +121,7 @@ static void shelf_is_kept(void)
     expect_answer(fetch(other, sizeof other, out, 5), BENCH_NOTHING_KEPT, 0, 0, 0, "another society has no such table");
     expect_answer(forget(3, 7), BENCH_DONE, 0, 0, 0, "forget");
     expect_answer(fetch(JOB, sizeof JOB, out, 5), BENCH_NOTHING_KEPT, 0, 0, 0, "what is forgotten cannot be fetched");
-    sum = 0;
-    for (size_t i = 0; i < BENCH_SHELF_WORDS; i++)
-        sum |= shelf[i];
-    expect(sum == 0, "forgetting the only table leaves a cleared shelf");
+    expect(shelf_is_empty(), "forgetting the only table leaves a cleared shelf");
 }
 
 /* The worked example's job under another society and number. */
@@ -189,9 +206,10 @@ static void select_table(void)
 /* The words of a slot: n, job, F and G in two words each, the count of links; then the values, then the multipliers. */
 enum { SLOT_WORDS = 287, AT_LINKS = 6, AT_VALUES = 7, AT_MULTIPLIERS = 127 };
 
+/* Where each society has four slots, the word at which a slot begins. */
 static size_t slot_at(size_t society, size_t slot)
 {
-    return (4 * society + slot) * SLOT_WORDS;
+    return BENCH_SOCIETIES + (4 * society + slot) * SLOT_WORDS;
 }
 
 /* LINKED with the table 2 2 1 and the multipliers 2 0, of which document 01 gives F 15 and G 0. */
@@ -205,14 +223,11 @@ static void keep_linked(void)
 static void slot_words(void)
 {
     uint32_t expected[SLOT_WORDS] = {3, 7, 15, 0, 0, 0, 2, 2, 2, 1};
-    uint32_t sum = 0;
     keep_linked();
     expected[AT_MULTIPLIERS] = 2;
     expect(memcmp(shelf + slot_at(3, 0), expected, sizeof expected) == 0, "the words of a slot");
     memset(shelf + slot_at(3, 0), 0, sizeof expected);
-    for (size_t i = 0; i < BENCH_SHELF_WORDS; i++)
-        sum |= shelf[i];
-    expect(sum == 0, "keep writes to one slot alone");
+    expect(shelf_is_empty(), "keep writes to one slot alone");
 }
 
 /* Fetches with a copy of the pack in which one byte is mended. */
@@ -507,31 +522,125 @@ static void shelf_refusals(void)
     expect_answer(forget(3, 8), BENCH_NOTHING_KEPT, 0, 0, 0, "forget of a job that is not kept");
     expect_answer(fetch(JOB, sizeof JOB, out, 2), BENCH_WRONG_LENGTH, 3, 0, 0, "fetch into two words");
     expect(out[0] == 9 && out[1] == 9 && out[2] == 9, "refused fetches write no value");
-    expect_answer(bench_clear(shelf, BENCH_SHELF_WORDS - 1, answer, BENCH_ANSWER_WORDS), BENCH_WRONG_LENGTH, BENCH_SHELF_WORDS, 0, 0,
+    expect_answer(bench_clear(shelf, BENCH_SHELF_WORDS - 1, FOUR, answer, BENCH_ANSWER_WORDS), BENCH_WRONG_LENGTH, BENCH_SHELF_WORDS, 0, 0,
                   "a shelf one word short");
     expect(shelf[slot_at(3, 0)] == 3, "a refused clear clears nothing");
 }
 
-/* A shelf of version 2 is no shelf, before all else. */
-static void old_shelf(void)
+/* The request's own counts (document 02, W-209): ten for societies 1 and 4, and two for each other. */
+static const uint32_t TEN_TEN_TWO[BENCH_SOCIETIES] = {2, 10, 2, 2, 10, 2, 2, 2};
+
+/* Keeps the worked example's table under numbers from 0 on, so many of them. */
+static void keep_many(uint8_t society, uint8_t tables)
 {
-    enum { OLD_WORDS = 4032, PLACE = 9184 };
-    static uint32_t old[OLD_WORDS];
+    uint8_t job[sizeof JOB];
+    memcpy(job, JOB, sizeof JOB);
+    job[0] = society;
+    for (job[1] = 0; job[1] < tables; job[1]++)
+        expect_answer(keep(job, sizeof job, PROPOSAL, 3), BENCH_DONE, 0, 28, 0, "one of many tables is kept");
+}
+
+/* A society that kept one table more than it has slots has lost the first and no other. */
+static void keeps_its_count(uint8_t society, uint8_t slots)
+{
+    keep_many(society, slots + 1);
+    expect_answer(fetch_named(society, 0), BENCH_NOTHING_KEPT, 0, 0, 0, "the oldest is gone");
+    for (uint8_t number = 1; number <= slots; number++)
+        expect_answer(fetch_named(society, number), BENCH_DONE, 3, 28, 0, "as many are there as the society has slots");
+}
+
+static void more_room(void)
+{
+    expect_answer(clear_to(TEN_TEN_TWO), BENCH_DONE, 0, 0, 0, "ten, ten and two");
+    expect(shelf_is(TEN_TEN_TWO, BENCH_SOCIETIES, BENCH_SHELF_WORDS, 0), "clearing sets the counts");
+    for (uint8_t society = 0; society < BENCH_SOCIETIES; society++)
+        keeps_its_count(society, (uint8_t)TEN_TEN_TWO[society]);
+    for (uint8_t society = 0; society < BENCH_SOCIETIES; society++)
+        expect_answer(fetch_named(society, 1), BENCH_DONE, 3, 28, 0, "no society's keeps have dropped another's table");
+    expect(shelf[582] == 3 && shelf[583] == 1 && shelf[3452] == 3 && shelf[3453] == 1, "societies 1 and 2 begin where bench.h says");
+    expect_answer(forget(4, 5), BENCH_DONE, 0, 0, 0, "one of ten is forgotten");
+    expect_answer(fetch_named(4, 10), BENCH_DONE, 3, 28, 0, "the last of ten has moved down");
+    expect_answer(fetch_named(5, 1), BENCH_DONE, 3, 28, 0, "and the next society's first table has not");
+    expect(memcmp(shelf, TEN_TEN_TWO, sizeof TEN_TEN_TWO) == 0, "keep, fetch and forget leave the counts");
+}
+
+/* A single slot has the last table kept; and what is behind the last span stays, at a clearing too. */
+static void one_slot_each(void)
+{
+    const uint32_t one[BENCH_SOCIETIES] = {1, 1, 1, 1, 1, 1, 1, 1};
+    const size_t end = BENCH_SOCIETIES + BENCH_SOCIETIES * SLOT_WORDS;
+    memset(shelf, 0xFF, sizeof shelf);
+    expect_answer(clear_to(one), BENCH_DONE, 0, 0, 0, "one slot each");
+    expect(shelf_is(one, BENCH_SOCIETIES, end, 0), "clearing sets the spans to 0");
+    for (uint8_t society = 0; society < BENCH_SOCIETIES; society++)
+        keeps_its_count(society, 1);
+    expect_answer(forget(7, 1), BENCH_DONE, 0, 0, 0, "the only table is forgotten");
+    expect(shelf_is(one, end, BENCH_SHELF_WORDS, 0xFFFFFFFF), "no call writes behind the last span");
+}
+
+/* Other counts mean a shelf that is empty for every society, and one that must be filled anew. */
+static void other_counts(void)
+{
+    clear();
+    keep(JOB, sizeof JOB, PROPOSAL, 3);
+    expect_answer(clear_to(TEN_TEN_TWO), BENCH_DONE, 0, 0, 0, "a clearing to other counts");
+    expect_answer(fetch_named(3, 7), BENCH_NOTHING_KEPT, 0, 0, 0, "empties every society");
+}
+
+/* Every call on the shelf refuses these counts alike, before all that it would refuse otherwise, and nothing changes. */
+static void expect_refused(const uint32_t *counts, uint64_t place, const char *what)
+{
+    uint32_t out[3] = {9, 9, 9};
+    memset(shelf, 0, sizeof shelf);
+    expect_answer(clear_to(counts), BENCH_BAD_COUNTS, place, 0, 0, what);
+    expect(shelf[0] == 0 && shelf[BENCH_SOCIETIES - 1] == 0, "a refused clear sets no count");
+    memcpy(shelf, counts, BENCH_SOCIETIES * sizeof *counts);
+    expect_answer(keep(JOB, sizeof JOB, PROPOSAL, 3), BENCH_BAD_COUNTS, place, 0, 0, what);
+    expect_answer(keep(JOB, 0, PROPOSAL, 3), BENCH_BAD_COUNTS, place, 0, 0, "22 before a job pack that is refused");
+    expect_answer(fetch(JOB, sizeof JOB, out, 3), BENCH_BAD_COUNTS, place, 0, 0, what);
+    expect_answer(fetch(JOB, 0, out, 3), BENCH_BAD_COUNTS, place, 0, 0, "22 before a job pack that is refused at fetch");
+    expect_answer(forget(3, 7), BENCH_BAD_COUNTS, place, 0, 0, what);
+    expect_answer(forget(8, 7), BENCH_BAD_COUNTS, place, 0, 0, "22 before 11");
+    expect(shelf_is(counts, BENCH_SOCIETIES, BENCH_SHELF_WORDS, 0) && out[0] == 9, "a refusal changes nothing");
+}
+
+static void count_refusals(void)
+{
+    static const struct { const char *what; uint32_t counts[BENCH_SOCIETIES]; uint64_t place; } cases[] = {
+        {"no slot for society 0", {0, 4, 4, 4, 4, 4, 4, 4}, 0},
+        {"seventeen slots for society 7", {1, 1, 1, 1, 1, 1, 1, 17}, 7},
+        {"two counts that are wrong", {1, 1, 17, 1, 0, 1, 1, 1}, 2},
+        {"2^32 - 1 slots for society 3", {1, 1, 1, 4294967295, 1, 1, 1, 1}, 3},
+        {"ten, ten and two, with four for each other society", {4, 10, 4, 4, 10, 2, 4, 4}, 8},
+        {"33 in all", {4, 4, 4, 4, 5, 4, 4, 4}, 8},
+        {"a wrong count behind a total above 32", {16, 16, 16, 16, 16, 16, 16, 0}, 7},
+        {"a shelf of zeros, which was never cleared", {0, 0, 0, 0, 0, 0, 0, 0}, 0},
+    };
+    for (size_t i = 0; i < sizeof cases / sizeof *cases; i++)
+        expect_refused(cases[i].counts, cases[i].place, cases[i].what);
+}
+
+/* A shelf of an older version is no shelf, before all else: also one whose words would make a row that is not allowed. */
+static void old_shelf(size_t old_words)
+{
+    enum { PLACE = 9192 };
+    static uint32_t old[BENCH_SHELF_WORDS];
+    const uint32_t wrong[BENCH_SOCIETIES] = {0};
     uint32_t out[3];
     size_t changed = 0;
-    for (size_t i = 0; i < OLD_WORDS; i++)
-        old[i] = 9;
-    uint64_t said = bench_keep(old, OLD_WORDS, JOB, sizeof JOB, PROPOSAL, 3, answer, BENCH_ANSWER_WORDS);
-    expect_answer(said, BENCH_WRONG_LENGTH, PLACE, 0, 0, "keep on a shelf of version 2");
-    said = bench_fetch(old, OLD_WORDS, JOB, 0, out, 3, answer, BENCH_ANSWER_WORDS);
-    expect_answer(said, BENCH_WRONG_LENGTH, PLACE, 0, 0, "fetch from a shelf of version 2");
-    said = bench_forget(old, OLD_WORDS, 8, 7, answer, BENCH_ANSWER_WORDS);
-    expect_answer(said, BENCH_WRONG_LENGTH, PLACE, 0, 0, "forget on a shelf of version 2");
-    said = bench_clear(old, OLD_WORDS, answer, BENCH_ANSWER_WORDS);
-    expect_answer(said, BENCH_WRONG_LENGTH, PLACE, 0, 0, "clear on a shelf of version 2");
-    for (size_t i = 0; i < OLD_WORDS; i++)
-        changed += old[i] != 9;
-    expect(changed == 0, "a shelf of version 2 stays as it was");
+    for (size_t i = 0; i < BENCH_SHELF_WORDS; i++)
+        old[i] = 99;
+    uint64_t said = bench_keep(old, old_words, JOB, sizeof JOB, PROPOSAL, 3, answer, BENCH_ANSWER_WORDS);
+    expect_answer(said, BENCH_WRONG_LENGTH, PLACE, 0, 0, "keep on a shelf of an older version");
+    said = bench_fetch(old, old_words, JOB, 0, out, 3, answer, BENCH_ANSWER_WORDS);
+    expect_answer(said, BENCH_WRONG_LENGTH, PLACE, 0, 0, "fetch from a shelf of an older version");
+    said = bench_forget(old, old_words, 8, 7, answer, BENCH_ANSWER_WORDS);
+    expect_answer(said, BENCH_WRONG_LENGTH, PLACE, 0, 0, "forget on a shelf of an older version");
+    said = bench_clear(old, old_words, wrong, answer, BENCH_ANSWER_WORDS);
+    expect_answer(said, BENCH_WRONG_LENGTH, PLACE, 0, 0, "clear on a shelf of an older version, before its counts are tested");
+    for (size_t i = 0; i < BENCH_SHELF_WORDS; i++)
+        changed += old[i] != 99;
+    expect(changed == 0, "a shelf of an older version stays as it was");
 }
 
 static void length_refusals(void)
@@ -576,7 +685,12 @@ int main(void)
     largest_job();
     largest_line();
     shelf_refusals();
-    old_shelf();
+    old_shelf(4032);
+    old_shelf(9184);
+    more_room();
+    one_slot_each();
+    other_counts();
+    count_refusals();
     length_refusals();
     printf("%d passed, %d failed\n", passed, failed);
     return failed == 0 ? 0 : 1;

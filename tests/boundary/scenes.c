@@ -2,6 +2,7 @@
 #include "scenes.h"
 #include "../twin/twin.h"
 #include "corrections.h"
+#include "rows.h"
 #include "shapes.h"
 #include "shelves.h"
 
@@ -16,6 +17,13 @@ static struct words job_words;
 static uint32_t shelf[SHELF_WORDS + 8];
 static uint64_t noise[8192];
 static bool begun;
+
+/* The counts of a clearing, and the shelf's own row while one that is not allowed stands in its place for a call. */
+static uint32_t counts[SOCIETIES], own_row[ROW_WORDS];
+static bool row_is_spoilt;
+
+/* Calls that are left of a stretch in which one society keeps many tables: its slots get full, however many they are. */
+static int64_t filling, filled_society;
 
 /* What outputs and answer slices hold before a call: any words. */
 static const void *some_noise(struct random *r)
@@ -39,9 +47,28 @@ static void lend_answer(struct random *r, struct call *c)
 
 static void lend_shelf(struct random *r, struct call *c)
 {
-    static const size_t odd[] = {0, SLOTS * SLOT_WORDS, OLD_SHELF_WORDS, SHELF_WORDS - 1, SHELF_WORDS + 1};
-    size_t count = random_chance(r, c->function == CLEAR ? 30 : 3) ? odd[random_below(r, 5)] : SHELF_WORDS;
+    const size_t odd[] = {0, ROW_WORDS, twin_start(shelf, SOCIETIES), SHELF_WORDS_2, SHELF_WORDS_3, SHELF_WORDS - 1, SHELF_WORDS + 1};
+    size_t count = random_chance(r, c->function == CLEAR ? 30 : 3) ? odd[random_below(r, 7)] : SHELF_WORDS;
     lend(c, shelf, count, sizeof *shelf, c->function != FETCH);
+}
+
+/* The counts that a clearing is handed: every other time some that are not allowed. */
+static void lend_counts(struct random *r, struct call *c)
+{
+    row_allowed(r, counts);
+    if (random_chance(r, 50))
+        row_spoil(r, counts);
+    lend(c, counts, SOCIETIES, sizeof *counts, false);
+}
+
+/* For this call alone the shelf has a row that is not allowed. Forget and clear, which are seldom called, get one more often. */
+static void spoil_row(struct random *r, enum function function)
+{
+    row_is_spoilt = random_chance(r, function == FORGET || function == CLEAR ? 20 : 6);
+    if (!row_is_spoilt)
+        return;
+    memcpy(own_row, shelf, sizeof own_row);
+    row_spoil(r, shelf);
 }
 
 /* An output where `needed` elements would be written (0: the call is refused before). */
@@ -112,12 +139,10 @@ static void draw_words(struct random *r)
 /* A society and a job number: those of kept tables as often as others. */
 static void draw_key(struct random *r, struct call *c)
 {
-    c->society = (uint32_t)(random_chance(r, 60) ? random_below(r, 2) * 7 : random_below(r, SOCIETIES));
+    c->society = (uint32_t)draft_society(r);
     c->job = (uint32_t)random_below(r, 6);
-    if (random_chance(r, 70)) {
-        int64_t slots = random_between(r, 1, SLOTS);
-        c->job = shelf[((size_t)c->society * SLOTS + (size_t)random_below(r, slots)) * SLOT_WORDS + AT_JOB];
-    }
+    if (random_chance(r, 70))
+        c->job = shelf_slot(r, shelf, c->society)[AT_JOB];
 }
 
 /* What to forget: now and then of a society that there is not. */
@@ -209,27 +234,58 @@ static void shelf_call(struct random *r, struct call *c)
         lend_output(r, c, said % 32 == 0 ? said / 32 : 0, MOST_CELLS, sizeof(uint32_t));
     } else if (c->function == FORGET) {
         draw_forgotten(r, c);
+    } else {
+        lend_counts(r, c);
+    }
+    spoil_row(r, c->function);
+}
+
+/* The draft for the next calls. While a society's slots are filled, each call has another job of that society; about every third is kept. */
+static void next_draft(struct random *r)
+{
+    if (filling == 0 && random_below(r, 500) == 0) {
+        filling = 5 * MOST_SLOTS;
+        filled_society = random_chance(r, 60) ? row_longest(shelf) : draft_society(r);
+    }
+    if (!begun || filling > 0 || random_chance(r, 25))
+        draft_make(r, &drawn);
+    if (filling > 0) {
+        drawn.job.society = filled_society;
+        drawn.job.number = random_below(r, JOB_NUMBERS);
+        filling--;
     }
 }
 
-void scene_call(struct random *r, struct call *c)
+/* The shelf for the next calls: as the last call has left it, another one, or the same words under other counts. */
+static void next_shelf(struct random *r)
 {
-    static const struct { enum function function; int share; } shares[] = {
-        {CHECK, 210}, {PROPOSE, 150}, {KEEP, 240}, {FETCH, 180}, {FORGET, 40}, {CLEAR, 3}, {READ, 75}, {WRITE, 102},
-    };
-    for (size_t i = 0; !begun && i < sizeof noise / sizeof *noise; i++)
-        noise[i] = random_next(r);
-    if (!begun || random_chance(r, 25))
-        draft_make(r, &drawn);
     if (!begun || random_below(r, 800) == 0)
         shelf_begin(r, shelf);
-    begun = true;
-    memset(c, 0, sizeof *c);
+    else if (random_below(r, 800) == 0)
+        row_allowed(r, shelf);
+}
+
+static enum function next_function(struct random *r)
+{
+    static const struct { enum function function; int share; } shares[] = {
+        {CHECK, 210}, {PROPOSE, 150}, {KEEP, 240}, {FETCH, 180}, {FORGET, 38}, {CLEAR, 10}, {READ, 74}, {WRITE, 98},
+    };
     int64_t share = random_below(r, 1000);
     size_t f = 0;
     for (; share >= shares[f].share; f++)
         share -= shares[f].share;
-    c->function = shares[f].function;
+    return filling > 0 && random_chance(r, 80) ? KEEP : shares[f].function;
+}
+
+void scene_call(struct random *r, struct call *c)
+{
+    for (size_t i = 0; !begun && i < sizeof noise / sizeof *noise; i++)
+        noise[i] = random_next(r);
+    next_draft(r);
+    next_shelf(r);
+    begun = true;
+    memset(c, 0, sizeof *c);
+    c->function = next_function(r);
     if (c->function >= KEEP && c->function <= CLEAR)
         shelf_call(r, c);
     else
@@ -241,6 +297,9 @@ void scene_shelf(const struct call *c, uint64_t said, const void *after)
 {
     if (c->function >= KEEP && c->function <= CLEAR && c->slice[0].count == SHELF_WORDS)
         memcpy(shelf, after, sizeof *shelf * SHELF_WORDS);
+    if (row_is_spoilt && !(c->function == CLEAR && said == 0))
+        memcpy(shelf, own_row, sizeof own_row);
+    row_is_spoilt = false;
     if (c->function == KEEP && said == 0)
         shelf_remember(&job_pack, &proposal_pack);
 }

@@ -1,9 +1,10 @@
 /* See shelves.h. */
 #include "shelves.h"
+#include "rows.h"
 
 #include <string.h>
 
-enum { REMEMBERED = 8 };
+enum { REMEMBERED = 64 };
 
 /* Drafts by society and by the job number's rest. One without cells was never kept. */
 static struct draft remembered[SOCIETIES][REMEMBERED];
@@ -50,17 +51,29 @@ static void garbage_slot(struct random *r, uint32_t *slot)
     if (random_chance(r, 95))
         slot[AT_CELLS] = random_chance(r, 60) ? odd_cells(r) : (uint32_t)random_between(r, 2, MOST_CELLS);
     if (random_chance(r, 90))
-        slot[AT_JOB] = (uint32_t)random_below(r, 6);
+        slot[AT_JOB] = (uint32_t)random_below(r, random_chance(r, 50) ? 6 : JOB_NUMBERS);
     if (random_chance(r, 90))
         slot[AT_LINKS] = random_chance(r, 60) ? 0 : odd_links(r, 1);
 }
 
+/* Slots that begin elsewhere than behind the row are those of another layout. */
 void shelf_begin(struct random *r, uint32_t *shelf)
 {
-    memset(shelf, 0, SHELF_WORDS * sizeof *shelf);
-    if (random_chance(r, 40))
-        for (int64_t slot = 0; slot < SOCIETIES * SLOTS; slot++)
-            garbage_slot(r, shelf + slot * SLOT_WORDS);
+    uint32_t row[ROW_WORDS];
+    int64_t first = random_chance(r, 80) ? ROW_WORDS : random_below(r, ROW_WORDS);
+    for (int64_t slot = 0; slot < ALL_SLOTS; slot++)
+        garbage_slot(r, shelf + first + slot * SLOT_WORDS);
+    row_allowed(r, row);
+    if (random_chance(r, 60))
+        twin_begin(shelf, row);
+    else
+        memcpy(shelf, row, sizeof row);
+}
+
+uint32_t *shelf_slot(struct random *r, uint32_t *shelf, uint32_t society)
+{
+    int64_t slots = random_between(r, 1, shelf[society]);
+    return shelf + twin_start(shelf, society) + random_below(r, slots) * SLOT_WORDS;
 }
 
 /* Some word of those from `from` to `to`, if there are any: one that the kept counts use, or one that they leave unused. */
@@ -105,7 +118,7 @@ static void spoil_word(struct random *r, uint32_t *slot)
 /* Another slot of the society has the job too, mostly in other words. */
 static void duplicate(struct random *r, uint32_t *shelf, uint32_t society, const uint32_t *slot)
 {
-    uint32_t *other = shelf + (society * SLOTS + (uint32_t)random_below(r, SLOTS)) * SLOT_WORDS;
+    uint32_t *other = shelf_slot(r, shelf, society);
     memmove(other, slot, SLOT_WORDS * sizeof *slot);
     if (random_chance(r, 80))
         spoil_word(r, other);

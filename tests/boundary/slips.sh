@@ -27,7 +27,7 @@ for part in $parts; do
   as_bench tests/twin/$part.c "$out/copy/$part.c"
   gcc $flags -c "$out/copy/$part.c" -o "$out/whole/$part.o" || exit 1
 done
-for part in differential scenes calls drafts corrections shelves shapes extremes grids numbers lent; do
+for part in differential reached scenes calls drafts corrections shelves rows shapes extremes grids numbers lent; do
   gcc $flags -Wall -Wextra -Werror -c tests/boundary/$part.c -o "$out/$part.o" || exit 1
 done
 
@@ -50,7 +50,7 @@ try() {
 }
 
 gcc $flags -fsanitize=undefined -fno-sanitize-recover=all "$out"/copy/*.c tests/twin/{packs,measure,house,grid,shelf,calls}.c \
-  tests/boundary/{differential,scenes,calls,drafts,corrections,shelves,shapes,extremes,grids,numbers,lent}.c -o "$out/twins" || exit 1
+  tests/boundary/{differential,reached,scenes,calls,drafts,corrections,shelves,rows,shapes,extremes,grids,numbers,lent}.c -o "$out/twins" || exit 1
 if "$out/twins" 1 60000 >"$out/log" 2>&1; then good; else bad "the twin differs from itself"; tail -n 20 "$out/log"; fi
 
 while IFS='|' read -r file what edit; do
@@ -62,4 +62,4 @@ done <tests/boundary/slips
 
 echo "$passed passed, $failed failed"
 # The twin against itself, and every slip of the list.
-[ "$failed" = 0 ] && [ "$passed" -gt 189 ]
+[ "$failed" = 0 ] && [ "$passed" -gt 276 ]

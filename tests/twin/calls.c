@@ -1,5 +1,5 @@
-/* The eight calls (document 01, "Numbers Mr Aldous reads"; fetch document 02, W-203): the order of the refusals, and what a call returns and
- * writes. */
+/* The eight calls (document 01, "Numbers Mr Aldous reads"; document 02, fetch W-203, counts of slots W-209): the order of the refusals, and what a
+ * call returns and writes. */
 #include "parts.h"
 #include "twin.h"
 
@@ -30,9 +30,10 @@ static uint64_t wrong_answer_slice(void)
     return returned(twin_plain(13, ANSWER_WORDS));
 }
 
-static struct twin_answer wrong_shelf(void)
+/* The shelf's length, then counts: those of its leading row, or at clearing those that are handed in. */
+static struct twin_answer looked_at(size_t shelf_words, const uint32_t *counts)
 {
-    return twin_plain(13, SHELF_WORDS);
+    return shelf_words != SHELF_WORDS ? twin_plain(13, SHELF_WORDS) : twin_counts(counts);
 }
 
 /* The check, with what it read of both packs. */
@@ -87,9 +88,9 @@ uint64_t twin_keep(uint32_t *shelf, size_t shelf_words, const uint8_t *job, size
     struct twin_table table;
     if (answer_words != ANSWER_WORDS)
         return wrong_answer_slice();
-    if (shelf_words != SHELF_WORDS)
-        return told(wrong_shelf(), answer);
-    struct twin_answer a = checked(job, job_bytes, proposal, proposal_bytes, &read, &table);
+    struct twin_answer a = looked_at(shelf_words, shelf);
+    if (a.number == 0)
+        a = checked(job, job_bytes, proposal, proposal_bytes, &read, &table);
     if (a.number == 0)
         twin_put_table(shelf, &read, &table, a.loss, a.gap);
     return told(a, answer);
@@ -116,9 +117,9 @@ uint64_t twin_fetch(const uint32_t *shelf, size_t shelf_words, const uint8_t *jo
     struct twin_table table;
     if (answer_words != ANSWER_WORDS)
         return wrong_answer_slice();
-    if (shelf_words != SHELF_WORDS)
-        return told(wrong_shelf(), answer);
-    struct twin_answer a = fetched(shelf, job, job_bytes, &read, &table);
+    struct twin_answer a = looked_at(shelf_words, shelf);
+    if (a.number == 0)
+        a = fetched(shelf, job, job_bytes, &read, &table);
     if (a.number != 0)
         return told(a, answer);
     a.place = (uint64_t)read.cells;
@@ -133,21 +134,22 @@ uint64_t twin_forget(uint32_t *shelf, size_t shelf_words, uint32_t society, uint
 {
     if (answer_words != ANSWER_WORDS)
         return wrong_answer_slice();
-    if (shelf_words != SHELF_WORDS)
-        return told(wrong_shelf(), answer);
-    if (society >= SOCIETIES)
-        return told(twin_plain(11, 0), answer);
-    return told(twin_plain(twin_remove(shelf, society, job) ? 0 : 12, 0), answer);
+    struct twin_answer a = looked_at(shelf_words, shelf);
+    if (a.number == 0 && society >= SOCIETIES)
+        a = twin_plain(11, 0);
+    if (a.number == 0 && !twin_remove(shelf, society, job))
+        a = twin_plain(12, 0);
+    return told(a, answer);
 }
 
-uint64_t twin_clear(uint32_t *shelf, size_t shelf_words, uint64_t *answer, size_t answer_words)
+uint64_t twin_clear(uint32_t *shelf, size_t shelf_words, const uint32_t *counts, uint64_t *answer, size_t answer_words)
 {
     if (answer_words != ANSWER_WORDS)
         return wrong_answer_slice();
-    if (shelf_words != SHELF_WORDS)
-        return told(wrong_shelf(), answer);
-    memset(shelf, 0, SHELF_WORDS * sizeof *shelf);
-    return told(twin_plain(0, 0), answer);
+    struct twin_answer a = looked_at(shelf_words, counts);
+    if (a.number == 0)
+        twin_begin(shelf, counts);
+    return told(a, answer);
 }
 
 uint64_t twin_read(const uint8_t *job, size_t job_bytes, int64_t *words, size_t word_count, uint64_t *answer, size_t answer_words)

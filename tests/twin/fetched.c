@@ -10,16 +10,21 @@
 static const uint8_t JOB[] = {3, 7, 3, 2, 1, 2, 0, 1, 0, 100, 5, 1, 0, 100, 0, 1, 0, 100, 1, 2, 0, 1, 1, 2, 0};
 static uint32_t shelf[SHELF_WORDS];
 
+/* Society 3's first slot where each society has four: behind the leading row and twelve slots. */
+static uint32_t *const slot = shelf + 8 + 12 * 287;
+
 /* What the slot holds where the society has no other table: F 15, G 0, one link, v 2 2 1 and the multiplier 2. */
 static void slot_is_kept(void)
 {
+    const uint32_t counts[] = {4, 4, 4, 4, 4, 4, 4, 4};
     const uint8_t proposal[] = {2, 2, 1, 2};
     uint32_t expected[SLOT_WORDS] = {3, 7, 15, 0, 0, 0, 1, 2, 2, 1};
     uint64_t answer[ANSWER_WORDS];
     expected[127] = 2;
-    expect(sizeof expected == 287 * 4 && sizeof shelf == 9184 * 4, "287 words of a slot, 9,184 of a shelf");
-    expect(twin_keep(shelf, 9184, JOB, sizeof JOB, proposal, 4, answer, 4) == 0, "the table is kept");
-    expect(memcmp(shelf + 3 * 4 * 287, expected, sizeof expected) == 0, "the words of its slot");
+    expect(sizeof expected == 287 * 4 && sizeof shelf == 9192 * 4, "287 words of a slot, 9,192 of a shelf");
+    expect(twin_clear(shelf, 9192, counts, answer, 4) == 0, "the shelf is cleared");
+    expect(twin_keep(shelf, 9192, JOB, sizeof JOB, proposal, 4, answer, 4) == 0, "the table is kept");
+    expect(memcmp(slot, expected, sizeof expected) == 0, "the words of its slot");
 }
 
 /* One byte of the job or one word of the slot is changed. The residuals are 0; with crude rate 6 that of cell 1 is -2 (term 1), with weight 2 that of
@@ -49,7 +54,7 @@ static const struct changed {
 void fetched_tables(void)
 {
     uint8_t job[sizeof JOB];
-    uint32_t out[3], *slot = shelf + 3 * 4 * 287;
+    uint32_t out[3];
     uint64_t answer[ANSWER_WORDS];
     slot_is_kept();
     for (size_t i = 0; i < sizeof CHANGED / sizeof *CHANGED; i++) {
@@ -58,10 +63,11 @@ void fetched_tables(void)
         memcpy(job, JOB, sizeof JOB);
         job[c->byte] = c->byte_to;
         slot[c->word] = c->word_to;
-        uint64_t said = twin_fetch(shelf, 9184, job, sizeof job, out, 3, answer, 4);
+        uint64_t said = twin_fetch(shelf, 9192, job, sizeof job, out, 3, answer, 4);
         expect(said == 32 * c->place + c->number && answer[2] == c->loss && answer[3] == c->gap, c->what);
         slot[c->word] = was;
     }
-    expect(twin_fetch(shelf, 9184, JOB, sizeof JOB, out, 2, answer, 4) == 32 * 3 + 13, "room for two values");
-    expect(twin_fetch(shelf, 4032, JOB, sizeof JOB, out, 3, answer, 4) == 32 * 9184 + 13, "a shelf of 4,032 words");
+    expect(twin_fetch(shelf, 9192, JOB, sizeof JOB, out, 2, answer, 4) == 32 * 3 + 13, "room for two values");
+    expect(twin_fetch(shelf, 4032, JOB, sizeof JOB, out, 3, answer, 4) == 32 * 9192 + 13, "a shelf of 4,032 words");
+    expect(twin_fetch(shelf, 9184, JOB, sizeof JOB, out, 3, answer, 4) == 32 * 9192 + 13, "a shelf of 9,184 words");
 }

@@ -79,13 +79,28 @@ enum {
     SLOT_WORDS = AT_MULTIPLIERS + MOST_LINKS
 };
 
-/* The shelf. twin_find answers the lowest slot of the society with the job, or a null pointer; twin_find_for the same for a job that was read, if
- * the slot has as many cells and links. twin_take_table gives its numbers, or refusal 6. */
-enum { SOCIETIES = 8, SLOTS = 4, SHELF_WORDS = SOCIETIES * SLOTS * SLOT_WORDS };
+/* The words of a shelf (document 02, W-209): a leading row with each society's count of slots, then the societies' spans. Whatever the counts are, a
+ * shelf has room for the most slots that all societies may have together. */
+enum {
+    SOCIETIES = 8,
+    MOST_SLOTS = 16,
+    ALL_SLOTS = 32,
+    ROW_WORDS = SOCIETIES,
+    SHELF_WORDS = ROW_WORDS + ALL_SLOTS * SLOT_WORDS
+};
+
+/* Counts of slots, eight of them: done, or refusal 22. */
+struct twin_answer twin_counts(const uint32_t *counts);
+
+/* The shelf, whose leading row has to be allowed. twin_start answers the word where a society's span begins, and for SOCIETIES the word behind the last
+ * span. twin_find answers the lowest slot of the society with the job, or a null pointer; twin_find_for the same for a job that was read, if the slot
+ * has as many cells and links. twin_take_table gives its numbers, or refusal 6. twin_begin takes a shelf of any words. */
+size_t twin_start(const uint32_t *shelf, uint32_t society);
 const uint32_t *twin_find(const uint32_t *shelf, uint32_t society, uint32_t job);
 const uint32_t *twin_find_for(const uint32_t *shelf, const struct twin_job *job);
 struct twin_answer twin_take_table(const uint32_t *slot, const struct twin_job *job, struct twin_table *table);
 void twin_put_table(uint32_t *shelf, const struct twin_job *job, const struct twin_table *table, uint64_t loss, uint64_t gap);
 bool twin_remove(uint32_t *shelf, uint32_t society, uint32_t job);
+void twin_begin(uint32_t *shelf, const uint32_t *counts);
 
 #endif

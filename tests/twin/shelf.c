@@ -1,12 +1,38 @@
-/* The shelf (document 01; the words of a slot and what fetch asks of them document 02, W-203): eight societies of four slots, on lent words that
- * may hold anything. */
+/* The shelf (document 01; the words of a slot and what fetch asks of them document 02, W-203; the leading row W-209): eight societies, each with its
+ * own count of slots, on lent words that may hold anything. */
 #include "parts.h"
 
 #include <string.h>
 
-static uint32_t *slot_at(uint32_t *shelf, uint32_t society, int slot)
+/* "Place the lowest wrong society, or 8 for the total": every count is tested before the total is. */
+struct twin_answer twin_counts(const uint32_t *counts)
 {
-    return shelf + (society * SLOTS + (uint32_t)slot) * SLOT_WORDS;
+    uint32_t total = 0;
+    for (uint32_t society = 0; society < SOCIETIES; society++) {
+        if (counts[society] < 1 || counts[society] > MOST_SLOTS)
+            return twin_plain(22, society);
+        total += counts[society];
+    }
+    return total > ALL_SLOTS ? twin_plain(22, SOCIETIES) : twin_plain(0, 0);
+}
+
+/* "Places follow in society order", behind the leading row. */
+size_t twin_start(const uint32_t *shelf, uint32_t society)
+{
+    size_t before = 0;
+    for (uint32_t s = 0; s < society; s++)
+        before += shelf[s];
+    return ROW_WORDS + before * SLOT_WORDS;
+}
+
+static uint32_t *slot_at(uint32_t *shelf, uint32_t society, uint32_t slot)
+{
+    return shelf + twin_start(shelf, society) + slot * SLOT_WORDS;
+}
+
+static uint32_t *last_slot(uint32_t *shelf, uint32_t society)
+{
+    return slot_at(shelf, society, shelf[society] - 1);
 }
 
 static bool is_empty(const uint32_t *slot)
@@ -16,8 +42,8 @@ static bool is_empty(const uint32_t *slot)
 
 const uint32_t *twin_find(const uint32_t *shelf, uint32_t society, uint32_t job)
 {
-    const uint32_t *slot = shelf + society * SLOTS * SLOT_WORDS;
-    for (int s = 0; s < SLOTS; s++, slot += SLOT_WORDS)
+    const uint32_t *slot = shelf + twin_start(shelf, society);
+    for (uint32_t s = 0; s < shelf[society]; s++, slot += SLOT_WORDS)
         if (!is_empty(slot) && slot[AT_JOB] == job)
             return slot;
     return NULL;
@@ -48,11 +74,10 @@ struct twin_answer twin_take_table(const uint32_t *slot, const struct twin_job *
     return twin_plain(0, 0);
 }
 
-/* Moves the slots after this one down by one. The last stays as it was. */
+/* Moves the society's slots after this one down by one. The last stays as it was. */
 static void move_down(uint32_t *shelf, uint32_t society, uint32_t *slot)
 {
-    uint32_t *last = slot_at(shelf, society, SLOTS - 1);
-    memmove(slot, slot + SLOT_WORDS, (size_t)(last - slot) * sizeof *slot);
+    memmove(slot, slot + SLOT_WORDS, (size_t)(last_slot(shelf, society) - slot) * sizeof *slot);
 }
 
 /* Where a table goes: its job's slot, else the lowest empty one, else the last, after the others have moved. */
@@ -61,11 +86,11 @@ static uint32_t *slot_for(uint32_t *shelf, uint32_t society, uint32_t job)
     const uint32_t *found = twin_find(shelf, society, job);
     if (found)
         return shelf + (found - shelf);
-    for (int s = 0; s < SLOTS; s++)
+    for (uint32_t s = 0; s < shelf[society]; s++)
         if (is_empty(slot_at(shelf, society, s)))
             return slot_at(shelf, society, s);
     move_down(shelf, society, slot_at(shelf, society, 0));
-    return slot_at(shelf, society, SLOTS - 1);
+    return last_slot(shelf, society);
 }
 
 static void put_wide(uint32_t *low_and_high, uint64_t value)
@@ -95,6 +120,13 @@ bool twin_remove(uint32_t *shelf, uint32_t society, uint32_t job)
     if (!found)
         return false;
     move_down(shelf, society, shelf + (found - shelf));
-    memset(slot_at(shelf, society, SLOTS - 1), 0, SLOT_WORDS * sizeof *shelf);
+    memset(last_slot(shelf, society), 0, SLOT_WORDS * sizeof *shelf);
     return true;
+}
+
+/* Clearing "alone takes and sets the counts"; "the rest of it is never touched". */
+void twin_begin(uint32_t *shelf, const uint32_t *counts)
+{
+    memcpy(shelf, counts, ROW_WORDS * sizeof *shelf);
+    memset(shelf + ROW_WORDS, 0, (twin_start(shelf, SOCIETIES) - ROW_WORDS) * sizeof *shelf);
 }

@@ -1,4 +1,5 @@
-/* The twin against document 01 itself: its tables worked by hand, its forms of numbers, and the checking program's lines. Then grids, and fetches. */
+/* The twin against document 01 itself: its tables worked by hand, its forms of numbers, and the checking program's lines. Then grids, fetches, and
+ * counts of slots. */
 #include "tables.h"
 #include "twin.h"
 
@@ -124,6 +125,7 @@ int main(void)
     lines();
     select_tables();
     fetched_tables();
+    counts_tables();
     printf("%d passed, %d failed\n", passed, failed);
     return failed == 0 ? 0 : 1;
 }

@@ -16,7 +16,7 @@ uint64_t twin_fetch(const uint32_t *shelf, size_t shelf_words, const uint8_t *jo
                     uint32_t *out, size_t out_words, uint64_t *answer, size_t answer_words);
 uint64_t twin_forget(uint32_t *shelf, size_t shelf_words, uint32_t society, uint32_t job,
                      uint64_t *answer, size_t answer_words);
-uint64_t twin_clear(uint32_t *shelf, size_t shelf_words, uint64_t *answer, size_t answer_words);
+uint64_t twin_clear(uint32_t *shelf, size_t shelf_words, const uint32_t *counts, uint64_t *answer, size_t answer_words);
 uint64_t twin_read(const uint8_t *job, size_t job_bytes, int64_t *words, size_t word_count,
                    uint64_t *answer, size_t answer_words);
 uint64_t twin_write(const int64_t *words, size_t word_count, uint8_t *out, size_t out_bytes,

@@ -27,7 +27,7 @@ use Rattle.slots.specs.Slots.{headSize, valuesEnd, lowest, hasJob, atSlot}
 use Rattle.counts.specs.declared.Row.{Row}
 use Rattle.counts.specs.declared.Row.the-variants.{Right, Wrong}
 use Rattle.counts.specs.Counts.{shelfWords, testRow, onRow, rowIn}
-use Rattle.counts.proofs.Tested.{wrong-place}
+use Rattle.counts.proofs.Tests.{wrong-place}
 use Rattle.checked.specs.Answers.{Reply, refusal, done, answerOf}
 use Rattle.shelf.specs.Shelf.{forgetReply, Layout, layoutIn, spanOf, fromSociety, fromWhole, keepReply, fetchFrom, fetchReply, forgotReply}
 use Rattle.checked.specs.Checked.{checkedOf}

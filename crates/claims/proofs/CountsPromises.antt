@@ -12,7 +12,7 @@ use Rattle.slots.specs.Slots.{lowest, atSlot}
 use Rattle.counts.specs.declared.Row.{Row}
 use Rattle.counts.specs.declared.Row.the-variants.{Right, Wrong}
 use Rattle.counts.specs.Counts.{societies, allSlots, countIn, slotsBelow, slotsOf, isWrong, lowestWrong, testRow, startIn}
-use Rattle.counts.proofs.Tested.{each-right, lowest-wrong-is, right-allotted}
+use Rattle.counts.proofs.Tests.{each-right, lowest-wrong-is, right-allotted}
 use Rattle.claims.specs.Verdicts.{LowestNot}
 use Rattle.claims.specs.CountsPromises.{OneToSixteen, CountsAllowed, CountsWrong, a-count, the-total, RightExactly, WrongExactly, fours, FourEach, TenTenTwo}
 

@@ -18,7 +18,7 @@ use Rattle.slots.specs.Slots.{slotWords, keptIn, forgotIn}
 use Rattle.counts.specs.declared.Row.{Row}
 use Rattle.counts.specs.declared.Row.the-variants.{Right, Wrong}
 use Rattle.counts.specs.Counts.{shelfWords, countIn, testRow, onRow, rowIn, cleared}
-use Rattle.counts.proofs.Tested.{right-eight}
+use Rattle.counts.proofs.Tests.{right-eight}
 use Rattle.counts.proofs.Cleared.{cleared-row, cleared-length, cleared-span}
 use Rattle.checked.specs.Answers.{Reply, refusal, done, accepted}
 use Rattle.shelf.specs.Shelf.{forgetReply, Layout, rowed, slotFrom, spanOf, sizeOf, onSociety, fromSociety, keptShelf, fetchFrom, fetchReply, forgotShelf, forgotReply}

@@ -20,7 +20,7 @@ use Rattle.slots.specs.Slots.{slotWords, keptIn, forgotIn}
 use Rattle.counts.specs.declared.Row.{Row}
 use Rattle.counts.specs.declared.Row.the-variants.{Right, Wrong}
 use Rattle.counts.specs.Counts.{shelfWords, countIn, testRow, rowIn, Ready, cleared}
-use Rattle.counts.proofs.Tested.{right-eight}
+use Rattle.counts.proofs.Tests.{right-eight}
 use Rattle.counts.proofs.Cleared.{cleared-row, cleared-length, cleared-span}
 use Rattle.checked.specs.Answers.{Reply, refusal, accepted}
 use Rattle.checked.specs.Checked.{Checked, checkedOf}

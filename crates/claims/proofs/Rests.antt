@@ -12,7 +12,7 @@ use Rattle.slots.specs.Slots.{slotWords}
 use Rattle.counts.specs.declared.Row.the-variants.{Right}
 use Rattle.counts.specs.Counts.{societies, shelfWords, countIn, testRow, rowIn, startIn, restOf, Ready}
 use Rattle.counts.proofs.Below.{below-apart}
-use Rattle.counts.proofs.Tested.{right-eight}
+use Rattle.counts.proofs.Tests.{right-eight}
 use Rattle.counts.proofs.Cleared.{cleared-rest}
 use Rattle.checked.specs.Answers.{accepted}
 use Rattle.checked.specs.Checked.{Checked, checkedOf}

@@ -11,7 +11,7 @@ use Rattle.slots.proofs.Stored.{put-next, mid-next}
 use Rattle.counts.specs.declared.Row.the-variants.{Right}
 use Rattle.counts.specs.Counts.{societies, allSlots, shelfWords, countIn, slotsBelow, slotsOf, testRow, rowIn, startIn, restOf, cleared}
 use Rattle.counts.proofs.Below.{below-apart}
-use Rattle.counts.proofs.Tested.{right-allotted}
+use Rattle.counts.proofs.Tests.{right-allotted}
 
 -- ---- parts of zeros
 take-zeros : (k n : ℕ) → k ≤ n → take k (replicate {A = ℕ} n 0) ≡ replicate k 0

@@ -1,4 +1,4 @@
 -- Laws that several proofs cite.
 pub mod Below
-pub mod Tested
+pub mod Tests
 pub mod Cleared

@@ -4,12 +4,14 @@ use Prim.Native.Nat.{ℕ, zero, suc, _+_, _*_}
 use mathlib.Core.Path.{_≡_}
 use mathlib.Core.Bool.{Bool, cond, _||_}
 use mathlib.Core.List.{List, _++_}
-use lib.Dec.{leb, ltb}
+use lib.Dec.{eqb, leb, ltb}
 use lib.ListN.{length, take, drop, getD, replicate}
 use Rattle.slots.specs.declared.Slot.{Slot}
 use Rattle.slots.specs.Slots.{slotWords, lowest, atSlot}
 use Rattle.counts.specs.declared.Row.{Row}
 use Rattle.counts.specs.declared.Row.the-variants.{Right, Wrong}
+use Rattle.counts.specs.declared.Tested.{Tested}
+use Rattle.counts.specs.declared.Tested.the-variants.{Passed, Refused}
 
 -- ---- counts
 -- the societies, the most slots of one, and of all
@@ -67,6 +69,14 @@ startIn row society = societies + slotWords * slotsBelow (countIn row) society
 
 abbrev pub restOf : (row shelf : List ℕ) → List ℕ
 restOf row shelf = drop (startIn row societies) shelf
+
+-- "13 names that number"; "22 counts not allowed, at clearing, and at every other call after the length test": of the counts handed in, or of the shelf's own
+unfoldable pub testShelf : (row shelf : List ℕ) → Tested
+testShelf row shelf = cond (eqb (length shelf) shelfWords) (onRow (testRow row) Passed (λ place. Refused 22 place)) (Refused 13 shelfWords)
+
+abbrev pub onTested : {A : Type 0} → Tested → (passed : A) → (refused : (number place : ℕ) → A) → A
+onTested Passed passed refused = passed
+onTested (Refused number place) passed refused = refused number place
 
 -- a shelf has all its words, and its row is allowed
 pub record Ready (shelf : List ℕ) : Type 0 where

@@ -5,7 +5,8 @@ ghost use Prim.Native.Nat.{_+_, _*_, _<_, _≤_};
 ghost use lib.ListN.{length, drop};
 ghost use Rattle.slots.specs.Slots.{slotWords};
 ghost use Rattle.counts.specs.declared.Row.the-variants.{Right};
-ghost use Rattle.counts.specs.Counts.{societies, shelfWords, countIn, slotsBelow, isWrong, lowestWrong, testTotal, testRow, rowIn, startIn, Ready, cleared};
+ghost use Rattle.counts.specs.declared.Tested.the-variants.{Passed, Refused};
+ghost use Rattle.counts.specs.Counts.{societies, shelfWords, countIn, slotsBelow, isWrong, lowestWrong, testTotal, testRow, onRow, testShelf, rowIn, startIn, Ready, cleared};
 ghost use Rattle.counts.specs.Given.{Counts};
 use slots::SLOT_WORDS;
 use slots::Slot;
@@ -13,18 +14,24 @@ use slots::words::copy_words;
 use slots::words::zero_words;
 
 // The societies, the most slots of one and of all, and the words of a shelf.
-pub const SOCIETIES: usize = 8;
+const SOCIETIES: usize = 8;
 
 const MOST_SLOTS: u32 = 16;
 
 const ALL_SLOTS: usize = 32;
 
-pub const SHELF_WORDS: usize = 9192;
+const SHELF_WORDS: usize = 9192;
 
 // Whether a row of counts is allowed: it is, or it is wrong at a place.
 pub enum Row {
     Right,
     Wrong(usize),
+}
+
+// Whether a call on a shelf may go on: it may, or it is refused with a number and a place.
+pub enum Tested {
+    Passed,
+    Refused(u64, u64),
 }
 
 // Where a society's span starts and ends, and how many slots it has.
@@ -95,7 +102,7 @@ fn test_total(row: &[u32]) -> Row
 }
 
 // Whether a row of counts is allowed.
-pub fn test_row(row: &[u32]) -> Row
+fn test_row(row: &[u32]) -> Row
     requires { ⌜ length (now row) ≡ societies ⌝ }
     ensures { λ r. ⌜ r ≡ testRow (now (row .entry)) ⌝ }
 {
@@ -104,6 +111,38 @@ pub fn test_row(row: &[u32]) -> Row
         Slot::At(society) => Row::Wrong(society),
         Slot::Nowhere => test_total(row),
     }
+}
+
+// The test of counts as that of a shelf that has all its words.
+fn test_counts(row: &[u32]) -> Tested
+    requires { ⌜ length (now row) ≡ societies ⌝ }
+    ensures { λ r. ⌜ r ≡ onRow (testRow (now (row .entry))) Passed (λ place. Refused 22 place) ⌝ }
+{
+    let found = test_row(row);
+    match found {
+        Row::Right => Tested::Passed,
+        Row::Wrong(place) => Tested::Refused(22, place as u64),
+    }
+}
+
+// Whether a society's call on a shelf may go on: its length, then its leading row.
+pub fn test_shelf(shelf: &[u32]) -> Tested
+    ensures { λ r. ⌜ r ≡ testShelf (rowIn (now (shelf .entry))) (now (shelf .entry)) ⌝ }
+{
+    if shelf.len() != SHELF_WORDS {
+        return Tested::Refused(13, SHELF_WORDS as u64);
+    }
+    test_counts(&shelf[0..SOCIETIES])
+}
+
+// Whether a clearing with those counts may go on: the shelf's length, then the counts.
+pub fn test_clearing(shelf: &[u32], counts: &[u32; 8]) -> Tested
+    ensures { λ r. ⌜ r ≡ testShelf (rowIn (now (counts .entry))) (now (shelf .entry)) ⌝ }
+{
+    if shelf.len() != SHELF_WORDS {
+        return Tested::Refused(13, SHELF_WORDS as u64);
+    }
+    test_counts(counts)
 }
 
 // The span of a society, which has so many slots.

@@ -4,7 +4,7 @@ pub mod Parts
 pub mod Spans
 pub mod Rows
 pub mod Society
-pub mod Lengths
+pub mod Answered
 pub mod Judged
 pub mod Sound
 pub mod Packs

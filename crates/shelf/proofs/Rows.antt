@@ -10,7 +10,7 @@ use borrow.Author.Tests.{leb-true}
 use Rattle.counts.specs.declared.Row.the-variants.{Right}
 use Rattle.counts.specs.Counts.{societies, shelfWords, countIn, testRow, rowIn, Ready}
 use Rattle.counts.proofs.Below.{below-apart}
-use Rattle.counts.proofs.Tested.{right-allotted, row-inside}
+use Rattle.counts.proofs.Tests.{right-allotted, row-inside}
 use Rattle.shelf.specs.Shelf.{rowed, layoutIn, sizeOf, spanOf, onPart, onSociety}
 use Rattle.shelf.proofs.Parts.{on-before}
 use Rattle.shelf.proofs.Spans.{Lawful}

@@ -9,8 +9,8 @@ use lib.IntN.{ℤ, natAbs}
 use Rattle.jobs.specs.Packs.{readJob}
 use Rattle.checked.specs.Answers.{Reply, refusal, done}
 use Rattle.checked.specs.Checked.{checkedOf}
-use Rattle.counts.specs.Counts.{testRow, onRow, rowIn, cleared}
-use Rattle.shelf.specs.Shelf.{Layout, layoutIn, onWhole, fromWhole, keptShelf, keepReply, fetchReply, forgotShelf, forgotReply}
+use Rattle.counts.specs.Counts.{testShelf, onTested, rowIn, cleared}
+use Rattle.shelf.specs.Shelf.{Layout, layoutIn, keptShelf, keepReply, fetchReply, forgotShelf, forgotReply}
 
 -- a society's own call, and a call: "clearing is the house's own call and belongs to no society"
 pub data Own : Type 0 where
@@ -22,7 +22,7 @@ pub data Call : Type 0 where
   own : Own → Call
   clear : (counts : List ℕ) → Call
 
--- ---- a society's call on a shelf that has all its words, by its layout
+-- ---- a society's call on a shelf that passes its test, by its layout
 abbrev pub laidAfter : Layout → (shelf : List ℕ) → Own → List ℕ
 laidAfter l shelf (keep job proposal) = keptShelf l (checkedOf job proposal) shelf
 laidAfter l shelf (fetch job room) = shelf
@@ -33,21 +33,15 @@ laidSaid l shelf (keep job proposal) = keepReply (checkedOf job proposal)
 laidSaid l shelf (fetch job room) = fetchReply l job room shelf
 laidSaid l shelf (forget society job) = forgotReply l society job shelf
 
--- ---- a call on a shelf that has all its words: "22 counts not allowed, at clearing, and at every other call after the length test"
-abbrev pub wholeAfter : (shelf : List ℕ) → Call → List ℕ
-wholeAfter shelf (own call) = onRow (testRow (rowIn shelf)) (laidAfter (layoutIn shelf) shelf call) (λ place. shelf)
-wholeAfter shelf (clear counts) = onRow (testRow (rowIn counts)) (cleared (rowIn counts) shelf) (λ place. shelf)
-
-abbrev pub wholeSaid : (shelf : List ℕ) → Call → Reply
-wholeSaid shelf (own call) = onRow (testRow (rowIn shelf)) (laidSaid (layoutIn shelf) shelf call) (λ place. refusal 22 place)
-wholeSaid shelf (clear counts) = onRow (testRow (rowIn counts)) done (λ place. refusal 22 place)
-
 -- ---- a call on any words: the shelf after it, and what it says
+-- A society's call tests the shelf's own row, a clearing the counts that it is handed; a refusal changes nothing.
 abbrev pub after : (shelf : List ℕ) → Call → List ℕ
-after shelf call = onWhole (λ s. wholeAfter s call) shelf
+after shelf (own call) = onTested (testShelf (rowIn shelf) shelf) (laidAfter (layoutIn shelf) shelf call) (λ number place. shelf)
+after shelf (clear counts) = onTested (testShelf (rowIn counts) shelf) (cleared (rowIn counts) shelf) (λ number place. shelf)
 
 abbrev pub said : (shelf : List ℕ) → Call → Reply
-said shelf call = fromWhole (λ s. wholeSaid s call) shelf
+said shelf (own call) = onTested (testShelf (rowIn shelf) shelf) (laidSaid (layoutIn shelf) shelf call) refusal
+said shelf (clear counts) = onTested (testShelf (rowIn counts) shelf) done refusal
 
 -- what each call of a sequence says
 abbrev pub shelfRun : (shelf : List ℕ) → List Call → List Reply

@@ -2,8 +2,8 @@
 use Prim.Native.Nat.{ℕ, _*_}
 use mathlib.Core.Bool.{cond}
 use mathlib.Core.List.{List, [], _++_}
-use lib.Dec.{eqb, leb}
-use lib.ListN.{length, take, drop}
+use lib.Dec.{leb}
+use lib.ListN.{take, drop}
 use Rattle.jobs.specs.Job.{Job}
 use Rattle.jobs.specs.Words.{jobOf}
 use Rattle.jobs.specs.Packs.{readJob}
@@ -53,13 +53,6 @@ onSociety l society f shelf = cond (leb society 7) (onPart (l .start society) (s
 -- what f says of the society's words; "11: … forget: society above 7"
 unfoldable pub fromSociety : Layout → (society : ℕ) → (f : List ℕ → Reply) → List ℕ → Reply
 fromSociety l society f shelf = cond (leb society 7) (f (spanOf l society shelf)) (refusal 11 0)
-
--- f done to a shelf that has all its words, and what f says of one; "13 names that number"
-unfoldable pub onWhole : (f : List ℕ → List ℕ) → List ℕ → List ℕ
-onWhole f shelf = cond (eqb (length shelf) shelfWords) (f shelf) shelf
-
-unfoldable pub fromWhole : (f : List ℕ → Reply) → List ℕ → Reply
-fromWhole f shelf = cond (eqb (length shelf) shelfWords) (f shelf) (refusal 13 shelfWords)
 
 -- ---- the calls, by the layout of a shelf that has all its words
 -- the table of an accepted check as a slot

@@ -4,7 +4,7 @@ use Prim.Native.Nat.{_+_, _*_}
 use native.Mathlib.Omega.{arith}
 use Rattle.counts.specs.Counts.{societies}
 use Rattle.slots.specs.Slots.{slotWords}
-use Rattle.counts.proofs.Tested.{right-allotted, counts-allotted}
+use Rattle.counts.proofs.Tests.{right-allotted, counts-allotted}
 use Rattle.counts.proofs.Cleared.{cleared-is}
 use borrow.Author.Needs.{needs}
 use Rattle.counts.proofs.clear_spans.Statement.{statement}

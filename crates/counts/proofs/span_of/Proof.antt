@@ -4,7 +4,7 @@ use Prim.Native.Nat.{ℕ, _+_, _*_}
 use native.Mathlib.Omega.{arith}
 use Rattle.slots.specs.Slots.{slotWords}
 use Rattle.counts.specs.Counts.{societies}
-use Rattle.counts.proofs.Tested.{ready-counts, count-at, count-some, span-inside}
+use Rattle.counts.proofs.Tests.{ready-counts, count-at, count-some, span-inside}
 use borrow.Author.Needs.{needs}
 use Rattle.counts.proofs.span_of.Statement.{statement}
 use Rattle.counts.proofs.span_of.Tie as tie

@@ -1,6 +1,6 @@
 -- The lowest wrong count, then the total.
 use mathlib.Core.Path.{sym, _∙_}
-use Rattle.counts.proofs.Tested.{test-wrong, test-others, counts-right}
+use Rattle.counts.proofs.Tests.{test-wrong, test-others, counts-right}
 use borrow.Author.Needs.{needs}
 use Rattle.counts.proofs.test_row.Statement.{statement}
 use Rattle.counts.proofs.test_row.Tie as tie

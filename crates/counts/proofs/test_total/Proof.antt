@@ -1,5 +1,5 @@
 -- The total of the counts, and whether it is above the most.
-use Rattle.counts.proofs.Tested.{total-right, total-many}
+use Rattle.counts.proofs.Tests.{total-right, total-many}
 use borrow.Author.Needs.{needs}
 use Rattle.counts.proofs.test_total.Statement.{statement}
 use Rattle.counts.proofs.test_total.Tie as tie

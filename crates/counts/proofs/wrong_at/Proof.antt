@@ -1,5 +1,5 @@
 -- The two tests of a count, in order.
-use Rattle.counts.proofs.Tested.{wrong-none, wrong-many}
+use Rattle.counts.proofs.Tests.{wrong-none, wrong-many}
 use borrow.Author.Needs.{needs}
 use Rattle.counts.proofs.wrong_at.Statement.{statement}
 use Rattle.counts.proofs.wrong_at.Tie as tie

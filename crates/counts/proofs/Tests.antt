@@ -1,13 +1,14 @@
 -- What the test of a row says of its counts.
 use mathlib.Core.Path.{_≡_, refl, sym, ap, _∙_, subst}
+use mathlib.Core.Logic.{_⊎_, inl, inr}
 use mathlib.Core.Bool.{Bool, true, false, cond, _||_}
 use mathlib.Core.List.{List, [], _∷_}
 use Prim.Native.Nat.{ℕ, zero, suc, _+_, _*_, _<_, _≤_}
 use native.Mathlib.Omega.{arith}
-use lib.Dec.{leb, ltb}
+use lib.Dec.{eqb, leb, ltb}
 use lib.ListN.{length, take, drop, getD}
 use lib.Seq.{length-take-le, take-all, getD-drop, getD-take, drop-drop}
-use borrow.Author.Tests.{le-leb, lt-leb, leb-true, leb-false, lt-ltb, le-ltb, ltb-false}
+use borrow.Author.Tests.{le-leb, lt-leb, leb-true, leb-false, lt-ltb, le-ltb, ltb-false, eq-eqb, ne-eqb, eqb-true}
 use Rattle.slots.specs.declared.Slot.{Slot}
 use Rattle.slots.specs.declared.Slot.the-variants.{At, Nowhere}
 use Rattle.slots.specs.Slots.{slotWords, lowest, pick, later, atSlot}
@@ -15,7 +16,9 @@ use Rattle.slots.proofs.Lowest.{first-word}
 use Rattle.slots.proofs.Sizes.{at-inj, no-slot, found-below}
 use Rattle.counts.specs.declared.Row.{Row}
 use Rattle.counts.specs.declared.Row.the-variants.{Right, Wrong}
-use Rattle.counts.specs.Counts.{societies, mostSlots, allSlots, shelfWords, countIn, slotsOf, isWrong, lowestWrong, testTotal, testRow, rowIn, startIn, Ready}
+use Rattle.counts.specs.declared.Tested.{Tested}
+use Rattle.counts.specs.declared.Tested.the-variants.{Passed, Refused}
+use Rattle.counts.specs.Counts.{societies, mostSlots, allSlots, shelfWords, countIn, slotsOf, isWrong, lowestWrong, testTotal, testRow, onRow, testShelf, rowIn, startIn, Ready}
 use Rattle.counts.specs.Given.{Counts}
 use Rattle.counts.proofs.Below.{below-apart}
 
@@ -165,7 +168,52 @@ counts-right row len e = record { inside = omega arith; few = omega arith; small
 pub counts-allotted : (row : List ℕ) → length row ≡ societies → Allotted row → (s : ℕ) → s ≤ societies → Counts row s
 counts-allotted row len a s h = record { inside = omega arith; few = h; small = λ i k. a .few i (omega arith) }
 
+-- ---- the test of a shelf
+module _ (row shelf : List ℕ) where
+  abbrev tested : (long : Bool) → Row → Tested
+  tested long o = cond long (onRow o Passed (λ place. Refused 22 place)) (Refused 13 shelfWords)
+
+  pub shelf-short : (length shelf ≡ shelfWords → ⊥) → testShelf row shelf ≡ Refused 13 shelfWords
+  unfolding testShelf
+  shelf-short n = ap {B = Tested} (λ (b : Bool). tested b (testRow row)) (ne-eqb (length shelf) shelfWords n)
+
+  pub shelf-long : length shelf ≡ shelfWords → testShelf row shelf ≡ onRow (testRow row) Passed (λ place. Refused 22 place)
+  unfolding testShelf
+  shelf-long e = ap {B = Tested} (λ (b : Bool). tested b (testRow row)) (eq-eqb (length shelf) shelfWords e)
+
+  pub shelf-right : length shelf ≡ shelfWords → testRow row ≡ Right → testShelf row shelf ≡ Passed
+  shelf-right e r = shelf-long e ∙ ap {B = Tested} (tested true) r
+
+  pub shelf-wrong : length shelf ≡ shelfWords → (place : ℕ) → testRow row ≡ Wrong place → testShelf row shelf ≡ Refused 22 place
+  shelf-wrong e place w = shelf-long e ∙ ap {B = Tested} (tested true) w
+
+  -- a shelf that passes has all its words, and its row is right
+  pub passed-both : testShelf row shelf ≡ Passed → (length shelf ≡ shelfWords) × (testRow row ≡ Right)
+  unfolding testShelf
+  passed-both e = go (eqb (length shelf) shelfWords) refl (testRow row) refl e
+    where
+      go : (b : Bool) → eqb (length shelf) shelfWords ≡ b → (o : Row) → testRow row ≡ o → tested b o ≡ Passed → (length shelf ≡ shelfWords) × (testRow row ≡ Right)
+      go true p Right q f = (eqb-true (length shelf) shelfWords p, q)
+      go true p (Wrong place) q f = let z : _≡_ {A = ℕ} 0 1 = cc in absurd (omega arith)
+      go false p o q f = let z : _≡_ {A = ℕ} 0 1 = cc in absurd (omega arith)
+
+  -- one that does not is refused with 13, or with 22 at a society or at 8
+  pub refused-either : (number place : ℕ) → testShelf row shelf ≡ Refused number place → ((number ≡ 13) × (place ≡ shelfWords)) ⊎ ((number ≡ 22) × (place ≤ societies))
+  unfolding testShelf
+  refused-either number place e = go (eqb (length shelf) shelfWords) (testRow row) refl e
+    where
+      go : (b : Bool) (o : Row) → testRow row ≡ o → tested b o ≡ Refused number place → ((number ≡ 13) × (place ≡ shelfWords)) ⊎ ((number ≡ 22) × (place ≤ societies))
+      go true Right q f = let z : _≡_ {A = ℕ} 0 1 = cc in absurd (omega arith)
+      go true (Wrong at) q f = let n : 22 ≡ number = cc in let p : at ≡ place = cc in inr (sym n, omega (arith, wrong-place row at q))
+      go false o q f = let n : 13 ≡ number = cc in let p : shelfWords ≡ place = cc in inl (sym n, sym p)
+
 -- ---- a shelf that is ready
+pub passed-ready : (shelf : List ℕ) → testShelf (rowIn shelf) shelf ≡ Passed → Ready shelf
+passed-ready shelf e = let b = passed-both (rowIn shelf) shelf e in record { long = b .0; row = b .1 }
+
+pub ready-passed : (shelf : List ℕ) → Ready shelf → testShelf (rowIn shelf) shelf ≡ Passed
+ready-passed shelf r = shelf-right (rowIn shelf) shelf (r .long) (r .row)
+
 module _ (shelf : List ℕ) (r : Ready shelf) (s : ℕ) (h : s < societies) where
   pub ready-counts : Counts (rowIn shelf) s
   ready-counts = counts-allotted (rowIn shelf) (length-take-le societies shelf (omega (arith, r .long))) (right-allotted (rowIn shelf) (r .row)) s (omega arith)

@@ -1,6 +1,7 @@
 -- The same for the calls on a shelf, from any words.
 use Prim.Native.Nat.{ℕ, _+_, _*_, _≤_}
 use mathlib.Core.Path.{_≡_, refl}
+use mathlib.Core.Logic.{_⊎_, inl, inr}
 use mathlib.Core.Bool.{Bool, true, false, cond}
 use mathlib.Core.List.{List}
 use native.Mathlib.Omega.{arith}
@@ -24,15 +25,15 @@ use Rattle.measure.specs.Check.{valuesOf, multipliersOf, verdictFor}
 use Rattle.slots.specs.declared.Slot.{Slot}
 use Rattle.slots.specs.declared.Slot.the-variants.{At, Nowhere}
 use Rattle.slots.specs.Slots.{headSize, valuesEnd, lowest, hasJob, atSlot}
-use Rattle.counts.specs.declared.Row.{Row}
-use Rattle.counts.specs.declared.Row.the-variants.{Right, Wrong}
-use Rattle.counts.specs.Counts.{shelfWords, testRow, onRow, rowIn}
-use Rattle.counts.proofs.Tests.{wrong-place}
+use Rattle.counts.specs.declared.Tested.{Tested}
+use Rattle.counts.specs.declared.Tested.the-variants.{Passed, Refused as Barred}
+use Rattle.counts.specs.Counts.{societies, shelfWords, testShelf, onTested, rowIn}
+use Rattle.counts.proofs.Tests.{refused-either}
 use Rattle.checked.specs.Answers.{Reply, refusal, done, answerOf}
-use Rattle.shelf.specs.Shelf.{forgetReply, Layout, layoutIn, spanOf, fromSociety, fromWhole, keepReply, fetchFrom, fetchReply, forgotReply}
+use Rattle.shelf.specs.Shelf.{forgetReply, Layout, layoutIn, spanOf, fromSociety, keepReply, fetchFrom, fetchReply, forgotReply}
 use Rattle.checked.specs.Checked.{checkedOf}
 use Rattle.shelf.specs.Fetched.{mostValue, mostMultiplier, lowestAbove, orSix, proposalOf, keptVerdict, handed, sameCounts, fetchTable, keptCells, keptLinks, keptValues, keptMultipliers, fetchAt, fetchIn, onJob}
-use Rattle.shelf.specs.Calls.{Own, Call, keep, fetch, forget, own, clear, laidSaid, wholeSaid, said}
+use Rattle.shelf.specs.Calls.{Own, Call, keep, fetch, forget, own, clear, laidSaid, said}
 use Rattle.shelf.proofs.Picked.{and-left, and-right}
 use Rattle.bench.proofs.Small.{Small, verdict-small, check-small}
 
@@ -115,22 +116,18 @@ laid-small l shelf (keep job proposal) = check-small job proposal
 laid-small l shelf (fetch job room) = fetch-small l job room shelf
 laid-small l shelf (forget society job) = society-small l society (forgetReply (l .words) (l .count society) job) shelf (forget-small (l .words) (l .count society) job)
 
--- ---- by the test of a row
-row-small : (row : List ℕ) (r : Reply) → Small (r .answer) → Small (onRow (testRow row) r (λ place. refusal 22 place) .answer)
-row-small row r s = go (testRow row) refl
+-- ---- by the test of the shelf
+tested-small : (row shelf : List ℕ) (r : Reply) → Small (r .answer) → Small (onTested (testShelf row shelf) r refusal .answer)
+tested-small row shelf r s = go (testShelf row shelf) refl
   where
-    go : (o : Row) → testRow row ≡ o → Small (onRow o r (λ place. refusal 22 place) .answer)
-    go Right e = s
-    go (Wrong place) e = refusal-small 22 place (omega arith) (omega (arith, wrong-place row place e))
+    either : (number place : ℕ) → ((number ≡ 13) × (place ≡ shelfWords)) ⊎ ((number ≡ 22) × (place ≤ societies)) → Small (refusal number place .answer)
+    either number place (inl h) = refusal-small number place (omega (arith, h .0)) (omega (arith, h .1))
+    either number place (inr h) = refusal-small number place (omega (arith, h .0)) (omega (arith, h .1))
 
-whole-small : (shelf : List ℕ) (call : Call) → Small (wholeSaid shelf call .answer)
-whole-small shelf (own call) = row-small (rowIn shelf) (laidSaid (layoutIn shelf) shelf call) (laid-small (layoutIn shelf) shelf call)
-whole-small shelf (clear counts) = row-small (rowIn counts) done (refusal-small 0 0 (omega arith) (omega arith))
+    go : (o : Tested) → testShelf row shelf ≡ o → Small (onTested o r refusal .answer)
+    go Passed e = s
+    go (Barred number place) e = either number place (refused-either row shelf number place e)
 
 pub said-small : (shelf : List ℕ) (call : Call) → Small (said shelf call .answer)
-unfolding fromWhole
-said-small shelf call = go (eqb (length shelf) shelfWords)
-  where
-    go : (t : Bool) → Small (cond t (wholeSaid shelf call) (refusal 13 shelfWords) .answer)
-    go true = whole-small shelf call
-    go false = refusal-small 13 shelfWords (omega arith) (omega arith)
+said-small shelf (own call) = tested-small (rowIn shelf) shelf (laidSaid (layoutIn shelf) shelf call) (laid-small (layoutIn shelf) shelf call)
+said-small shelf (clear counts) = tested-small (rowIn counts) shelf done (refusal-small 0 0 (omega arith) (omega arith))

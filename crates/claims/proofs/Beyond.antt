@@ -4,7 +4,7 @@ use mathlib.Core.Path.{_≡_, refl, sym, ap, _∙_}
 use mathlib.Core.Bool.{Bool, true, false, cond}
 use mathlib.Core.List.{List, [], _∷_}
 use native.Mathlib.Omega.{arith}
-use lib.Dec.{eqb, leb, ltb}
+use lib.Dec.{leb, ltb}
 use lib.IntN.{ℤ, natAbs}
 use lib.Ieee.{Float}
 use lib.ListN.{length, drop, set}
@@ -30,10 +30,10 @@ use Rattle.slots.specs.declared.Slot.the-variants.{At, Nowhere}
 use Rattle.slots.specs.Slots.{lowest, hasJob, atSlot}
 use Rattle.checked.specs.Answers.{Reply, refusal, overwritten}
 use Rattle.shelf.specs.Fetched.{keptVerdict, handed as handedTo, sameCounts, fetchTable, keptCells, keptLinks, keptValues, keptMultipliers, fetchAt, fetchIn, onJob}
-use Rattle.counts.specs.declared.Row.{Row}
-use Rattle.counts.specs.declared.Row.the-variants.{Right, Wrong}
-use Rattle.counts.specs.Counts.{shelfWords, testRow, onRow, rowIn}
-use Rattle.shelf.specs.Shelf.{Layout, layoutIn, spanOf, fromWhole, fetchFrom, fetchReply}
+use Rattle.counts.specs.declared.Tested.{Tested}
+use Rattle.counts.specs.declared.Tested.the-variants.{Passed, Refused as Barred}
+use Rattle.counts.specs.Counts.{testShelf, onTested, rowIn}
+use Rattle.shelf.specs.Shelf.{Layout, layoutIn, spanOf, fetchFrom, fetchReply}
 use Rattle.shelf.specs.Calls.{own, fetch, laidSaid, said}
 use Rattle.bench.specs.Calls.{outcomeOf}
 use Rattle.claims.proofs.Unwritten.{handed}
@@ -148,10 +148,8 @@ from-handed l job room shelf = go (readJob job .outcome)
     go (Refused number place) = omega arith
 
 pub fetch-within : (shelf job : List ℕ) (room : ℕ) → Handed (said shelf (own (fetch job room)))
-unfolding fromWhole
-fetch-within shelf job room = go (eqb (length shelf) shelfWords) (testRow (rowIn shelf))
+fetch-within shelf job room = go (testShelf (rowIn shelf) shelf)
   where
-    go : (t : Bool) (o : Row) → Handed (cond t (onRow o (laidSaid (layoutIn shelf) shelf (fetch job room)) (λ place. refusal 22 place)) (refusal 13 shelfWords))
-    go true Right = from-handed (layoutIn shelf) job room shelf
-    go true (Wrong place) = omega arith
-    go false o = omega arith
+    go : (o : Tested) → Handed (onTested o (laidSaid (layoutIn shelf) shelf (fetch job room)) refusal)
+    go Passed = from-handed (layoutIn shelf) job room shelf
+    go (Barred number place) = omega arith

@@ -1,11 +1,11 @@
 -- Which numbers each call's answer can have: document 01's tests, one after another.
 use Prim.Native.Nat.{ℕ, _+_, _*_, _≤_}
 use mathlib.Core.Path.{_≡_, refl, sym, subst}
-use mathlib.Core.Logic.{inl, inr}
+use mathlib.Core.Logic.{_⊎_, inl, inr}
 use mathlib.Core.Bool.{Bool, true, false, cond}
 use mathlib.Core.List.{List, [], _∷_}
 use native.Mathlib.Omega.{arith}
-use lib.Dec.{eqb, leb, ltb}
+use lib.Dec.{leb, ltb}
 use lib.IntN.{ℤ, natAbs}
 use lib.Signed.{leZ}
 use lib.ListN.{length, drop}
@@ -32,14 +32,15 @@ use Rattle.house.proofs.Writable.{house-writes}
 use Rattle.slots.specs.declared.Slot.{Slot}
 use Rattle.slots.specs.declared.Slot.the-variants.{At, Nowhere}
 use Rattle.slots.specs.Slots.{headSize, valuesEnd, lowest, hasJob, atSlot}
-use Rattle.counts.specs.declared.Row.{Row}
-use Rattle.counts.specs.declared.Row.the-variants.{Right, Wrong}
-use Rattle.counts.specs.Counts.{shelfWords, testRow, onRow, rowIn}
+use Rattle.counts.specs.declared.Tested.{Tested}
+use Rattle.counts.specs.declared.Tested.the-variants.{Passed, Refused as Barred}
+use Rattle.counts.specs.Counts.{societies, shelfWords, testShelf, onTested, rowIn}
+use Rattle.counts.proofs.Tests.{refused-either}
 use Rattle.checked.specs.Answers.{Reply, refusal, done, answerOf}
-use Rattle.shelf.specs.Shelf.{forgetReply, Layout, layoutIn, spanOf, fromSociety, fromWhole, keepReply, fetchFrom, fetchReply, forgotReply}
+use Rattle.shelf.specs.Shelf.{forgetReply, Layout, layoutIn, spanOf, fromSociety, keepReply, fetchFrom, fetchReply, forgotReply}
 use Rattle.shelf.specs.Fetched.{mostValue, mostMultiplier, lowestAbove, orSix, proposalOf, keptVerdict, handed as handedTo, sameCounts, fetchTable, keptCells, keptLinks, keptValues, keptMultipliers, fetchAt, fetchIn, onJob}
 use Rattle.checked.specs.Checked.{checkedOf}
-use Rattle.shelf.specs.Calls.{Call, keep, fetch, forget, own, clear, laidSaid, wholeSaid, said}
+use Rattle.shelf.specs.Calls.{keep, fetch, forget, own, clear, laidSaid, said}
 use Rattle.bench.specs.Calls.{outcomeOf}
 use Rattle.claims.specs.BenchPromises.{Among}
 use Rattle.claims.proofs.Unwritten.{handed}
@@ -200,24 +201,23 @@ society-number l society f shelf k = go (leb society 7)
     go true = k (spanOf l society shelf)
     go false = inl refl
 
--- 13, where the shelf has another length, 22 where a row is wrong, or what the call says
-said-number : (others : List ℕ) (most : ℕ) (shelf : List ℕ) (call : Call) (row : List ℕ) (r : Reply) → wholeSaid shelf call ≡ onRow (testRow row) r (λ place. refusal 22 place)
-    → Among others most 13 → Among others most 22 → Among others most (r .answer .number) → Among others most (said shelf call .answer .number)
-unfolding fromWhole
-said-number others most shelf call row r e t u h = go (eqb (length shelf) shelfWords)
+-- 13 or 22 where the test of the shelf refuses, or what the call says
+said-number : (others : List ℕ) (most : ℕ) (row shelf : List ℕ) (r : Reply) → Among others most 13 → Among others most 22 → Among others most (r .answer .number)
+    → Among others most (onTested (testShelf row shelf) r refusal .answer .number)
+said-number others most row shelf r t u h = go (testShelf row shelf) refl
   where
-    tested : (o : Row) → Among others most (onRow o r (λ place. refusal 22 place) .answer .number)
-    tested Right = h
-    tested (Wrong place) = u
+    either : (number place : ℕ) → ((number ≡ 13) × (place ≡ shelfWords)) ⊎ ((number ≡ 22) × (place ≤ societies)) → Among others most number
+    either number place (inl e) = subst (Among others most) (sym (e .0)) t
+    either number place (inr e) = subst (Among others most) (sym (e .0)) u
 
-    go : (b : Bool) → Among others most (cond b (wholeSaid shelf call) (refusal 13 shelfWords) .answer .number)
-    go true = subst (λ (x : Reply). Among others most (x .answer .number)) (sym e) (tested (testRow row))
-    go false = t
+    go : (o : Tested) → testShelf row shelf ≡ o → Among others most (onTested o r refusal .answer .number)
+    go Passed e = h
+    go (Barred number place) e = either number place (refused-either row shelf number place e)
 
 pub keep-number : (job proposal shelf : List ℕ) → Among (13 ∷ 22 ∷ []) 9 (said shelf (own (keep job proposal)) .answer .number)
 unfolding keepReply checkedOf
 keep-number job proposal shelf =
-    said-number (13 ∷ 22 ∷ []) 9 shelf (own (keep job proposal)) (rowIn shelf) (laidSaid (layoutIn shelf) shelf (keep job proposal)) refl (inl refl) (inr (inl refl)) (nine (check-number job proposal))
+    said-number (13 ∷ 22 ∷ []) 9 (rowIn shelf) shelf (laidSaid (layoutIn shelf) shelf (keep job proposal)) (inl refl) (inr (inl refl)) (nine (check-number job proposal))
   where
     nine : Among (13 ∷ []) 9 (answerOf (checkOf job proposal) .number) → Among (13 ∷ 22 ∷ []) 9 (answerOf (checkOf job proposal) .number)
     nine (inl e) = inl e
@@ -225,15 +225,15 @@ keep-number job proposal shelf =
 
 pub fetch-number : (shelf job : List ℕ) (room : ℕ) → Presented (said shelf (own (fetch job room)))
 fetch-number shelf job room =
-    said-number (12 ∷ 13 ∷ 22 ∷ []) 9 shelf (own (fetch job room)) (rowIn shelf) (laidSaid (layoutIn shelf) shelf (fetch job room)) refl (inr (inl refl)) (inr (inr (inl refl)))
+    said-number (12 ∷ 13 ∷ 22 ∷ []) 9 (rowIn shelf) shelf (laidSaid (layoutIn shelf) shelf (fetch job room)) (inr (inl refl)) (inr (inr (inl refl)))
     (fetch-from-number (layoutIn shelf) job room shelf)
 
 pub forget-number : (shelf : List ℕ) (society job : ℕ) → Held (said shelf (own (forget society job)))
 unfolding forgotReply
 forget-number shelf society job =
     let l = layoutIn shelf in
-    said-number (11 ∷ 12 ∷ 13 ∷ 22 ∷ []) 0 shelf (own (forget society job)) (rowIn shelf) (laidSaid l shelf (forget society job)) refl (inr (inr (inl refl))) (inr (inr (inr (inl refl))))
+    said-number (11 ∷ 12 ∷ 13 ∷ 22 ∷ []) 0 (rowIn shelf) shelf (laidSaid l shelf (forget society job)) (inr (inr (inl refl))) (inr (inr (inr (inl refl))))
     (society-number l society (forgetReply (l .words) (l .count society) job) shelf (forget-in-number (l .words) (l .count society) job))
 
 pub clear-number : (counts shelf : List ℕ) → Among (13 ∷ 22 ∷ []) 0 (said shelf (clear counts) .answer .number)
-clear-number counts shelf = said-number (13 ∷ 22 ∷ []) 0 shelf (clear counts) (rowIn counts) done refl (inl refl) (inr (inl refl)) (inr (inr (omega arith)))
+clear-number counts shelf = said-number (13 ∷ 22 ∷ []) 0 (rowIn counts) shelf done (inl refl) (inr (inl refl)) (inr (inr (omega arith)))

@@ -1,11 +1,11 @@
 -- The promises of the counts, each a law whose type is its statement in specs/CountsPromises.antt.
-use Prim.Native.Nat.{ℕ, zero, suc, _+_, _*_, _≤_, _<_}
+use Prim.Native.Nat.{ℕ, zero, suc, _+_, _*_, _≤_}
 use mathlib.Core.Path.{_≡_, refl, sym, ap, _∙_}
 use mathlib.Core.Bool.{Bool, true, false, cond}
 use mathlib.Core.List.{List}
 use native.Mathlib.Omega.{arith}
-use lib.Dec.{leb, ltb, eqb}
-use borrow.Author.Tests.{leb-true, leb-false, ltb-true, ltb-false}
+use lib.Dec.{leb, ltb}
+use borrow.Author.Tests.{leb-false, ltb-true, ltb-false}
 use Rattle.slots.specs.declared.Slot.{Slot}
 use Rattle.slots.specs.declared.Slot.the-variants.{At, Nowhere}
 use Rattle.slots.specs.Slots.{lowest, atSlot}
@@ -14,7 +14,7 @@ use Rattle.counts.specs.declared.Row.the-variants.{Right, Wrong}
 use Rattle.counts.specs.Counts.{societies, allSlots, countIn, slotsBelow, slotsOf, isWrong, lowestWrong, testRow, startIn}
 use Rattle.counts.proofs.Tests.{each-right, lowest-wrong-is, right-allotted}
 use Rattle.claims.specs.Verdicts.{LowestNot}
-use Rattle.claims.specs.CountsPromises.{OneToSixteen, CountsAllowed, CountsWrong, a-count, the-total, RightExactly, WrongExactly, fours, FourEach, TenTenTwo}
+use Rattle.claims.specs.CountsPromises.{CountsAllowed, CountsWrong, a-count, the-total, RightExactly, WrongExactly, fours, FourEach, TenTenTwo}
 
 -- ---- what the test says, forwards
 allowed-of : (row : List ℕ) → testRow row ≡ Right → CountsAllowed row

@@ -17,8 +17,9 @@ use Rattle.jobs.proofs.Readings.{read-jobs-allowed}
 use Rattle.slots.specs.Slots.{slotWords, keptIn, forgotIn}
 use Rattle.counts.specs.declared.Row.{Row}
 use Rattle.counts.specs.declared.Row.the-variants.{Right, Wrong}
-use Rattle.counts.specs.Counts.{shelfWords, countIn, testRow, onRow, rowIn, cleared}
-use Rattle.counts.proofs.Tests.{right-eight}
+use Rattle.counts.specs.declared.Tested.the-variants.{Passed}
+use Rattle.counts.specs.Counts.{shelfWords, countIn, testRow, onRow, testShelf, rowIn, cleared}
+use Rattle.counts.proofs.Tests.{right-eight, shelf-right, shelf-wrong}
 use Rattle.counts.proofs.Cleared.{cleared-row, cleared-length, cleared-span}
 use Rattle.checked.specs.Answers.{Reply, refusal, done, accepted}
 use Rattle.shelf.specs.Shelf.{forgetReply, Layout, rowed, slotFrom, spanOf, sizeOf, onSociety, fromSociety, keptShelf, fetchFrom, fetchReply, forgotShelf, forgotReply}
@@ -26,7 +27,7 @@ use Rattle.shelf.specs.Fetched.{fetchIn, onJob}
 use Rattle.checked.specs.Checked.{Checked, checkedOf}
 use Rattle.shelf.specs.Calls.{Own, Call, keep, fetch, forget, own, clear, laidAfter, laidSaid, after, said, shelfRun}
 use Rattle.slots.proofs.Steps.{slot-length}
-use Rattle.shelf.proofs.Lengths.{said-right, after-right, clear-right, clear-wrong}
+use Rattle.shelf.proofs.Answered.{said-passed, after-passed, clear-passed, clear-refused}
 use Rattle.shelf.proofs.Rows.{rowed-lawful}
 use Rattle.shelf.proofs.Sound.{Sound, accepted-sound}
 use Rattle.shelf.proofs.Spans.{Lawful, society-length, own as its-own, other}
@@ -172,14 +173,14 @@ module _ (xs : List ℕ) (k : Kept) (st : Stands xs k) where
   len : length xs ≡ shelfWords
   len = st .sim .long
 
-  own-right : testRow (rowIn xs) ≡ Right
-  own-right = ap {B = Row} testRow (st .row) ∙ st .right
+  ready : testShelf (rowIn xs) xs ≡ Passed
+  ready = shelf-right (rowIn xs) xs len (ap {B = Row} testRow (st .row) ∙ st .right)
 
   lawful : Lawful (rowed (k .row))
   lawful = rowed-lawful (k .row) (st .right)
 
   own-after : (call : Own) → laidAfter (rowed (k .row)) xs call ≡ after xs (own call)
-  own-after call = ap (λ (r : List ℕ). laidAfter (rowed r) xs call) (sym (st .row)) ∙ after-right xs len own-right call
+  own-after call = ap (λ (r : List ℕ). laidAfter (rowed r) xs call) (sym (st .row)) ∙ after-passed xs call ready
 
   pub stands-after : (call : Call) → Stands (after xs call) (keptAfter k call)
   stands-after (own call) =
@@ -191,17 +192,17 @@ module _ (xs : List ℕ) (k : Kept) (st : Stands xs k) where
   stands-after (clear counts) = go (testRow (rowIn counts)) refl
     where
       go : (o : Row) → testRow (rowIn counts) ≡ o → Stands (after xs (clear counts)) (onRow o (emptied counts) (λ place. k))
-      go Right e = subst (λ (ys : List ℕ). Stands ys (emptied counts)) (clear-right xs len counts e .1) (cleared-stands counts xs e len)
-      go (Wrong place) e = subst (λ (ys : List ℕ). Stands ys k) (clear-wrong xs len counts place e .1) st
+      go Right e = subst (λ (ys : List ℕ). Stands ys (emptied counts)) (clear-passed xs counts (shelf-right (rowIn counts) xs len e) .1) (cleared-stands counts xs e len)
+      go (Wrong place) e = subst (λ (ys : List ℕ). Stands ys k) (clear-refused xs counts 22 place (shelf-wrong (rowIn counts) xs len place e) .1) st
 
   pub stands-said : (call : Call) → said xs call ≡ keptSay k call
   stands-said (own call) =
-      sym (said-right xs len own-right call) ∙ ap {B = Reply} (λ (r : List ℕ). laidSaid (rowed r) xs call) (st .row) ∙ laid-said (rowed (k .row)) lawful call xs (k .lists) (st .sim)
+      sym (said-passed xs call ready) ∙ ap {B = Reply} (λ (r : List ℕ). laidSaid (rowed r) xs call) (st .row) ∙ laid-said (rowed (k .row)) lawful call xs (k .lists) (st .sim)
   stands-said (clear counts) = go (testRow (rowIn counts)) refl
     where
       go : (o : Row) → testRow (rowIn counts) ≡ o → said xs (clear counts) ≡ onRow o done (λ place. refusal 22 place)
-      go Right e = sym (clear-right xs len counts e .0)
-      go (Wrong place) e = sym (clear-wrong xs len counts place e .0)
+      go Right e = sym (clear-passed xs counts (shelf-right (rowIn counts) xs len e) .0)
+      go (Wrong place) e = sym (clear-refused xs counts 22 place (shelf-wrong (rowIn counts) xs len place e) .0)
 
 stands-run : (calls : List Call) (xs : List ℕ) (k : Kept) → Stands xs k → shelfRun xs calls ≡ listsRun k calls
 stands-run [] xs k st = refl
@@ -213,7 +214,7 @@ stands-run (call ∷ calls) xs k st =
 module _ (counts shelf : List ℕ) (from : ClearedWith counts shelf) where
   pub from-cleared : Stands shelf (emptied counts)
   from-cleared =
-      subst (λ (ys : List ℕ). Stands ys (emptied counts)) (clear-right (from .before) (from .long) counts (from .allowed) .1 ∙ sym (from .is))
+      subst (λ (ys : List ℕ). Stands ys (emptied counts)) (clear-passed (from .before) counts (shelf-right (rowIn counts) (from .before) (from .long) (from .allowed)) .1 ∙ sym (from .is))
       (cleared-stands counts (from .before) (from .allowed) (from .long))
 
   pub lists-of : (calls : List Call) → shelfRun shelf calls ≡ listsRun (emptied counts) calls

@@ -30,10 +30,11 @@ use Rattle.slots.specs.declared.Slot.the-variants.{At, Nowhere}
 use Rattle.slots.specs.Slots.{headSize, valuesEnd, slotWords, lowest, hasJob, atSlot}
 use Rattle.checked.specs.Answers.{Reply, refusal, overwritten, answerOf}
 use Rattle.shelf.specs.Fetched.{mostValue, mostMultiplier, upTo, lowestAbove, orSix, proposalOf, keptVerdict, handed, sameCounts, fetchTable, keptCells, keptLinks, keptValues, keptMultipliers, fetchAt, fetchIn, onJob}
-use Rattle.counts.specs.declared.Row.{Row}
-use Rattle.counts.specs.declared.Row.the-variants.{Right, Wrong}
-use Rattle.counts.specs.Counts.{shelfWords, testRow, onRow, rowIn}
-use Rattle.shelf.specs.Shelf.{Layout, layoutIn, spanOf, fromWhole, fetchFrom, fetchReply}
+use Rattle.counts.specs.declared.Tested.{Tested}
+use Rattle.counts.specs.declared.Tested.the-variants.{Passed, Refused as Barred}
+use Rattle.counts.specs.Counts.{testShelf, onTested, rowIn}
+use Rattle.counts.proofs.Tests.{passed-ready, refused-some}
+use Rattle.shelf.specs.Shelf.{Layout, layoutIn, spanOf, fetchFrom, fetchReply}
 use Rattle.shelf.specs.Calls.{fetch, own, said}
 use Rattle.shelf.proofs.Picked.{and-left, and-right}
 use Rattle.slots.proofs.Sizes.{found-below, slot-within, slot-end}
@@ -204,14 +205,11 @@ whole-behind l ok job room shelf len n = go (readJob job .outcome) refl n
     go (Refuses number place) e m = absurd (omega (arith, m, no-other-refusal job [] number place (ap (λ (o : Outcome). onRead o (proposalVerdict (jobIn job) [])) e) .0))
 
 any-behind : (shelf job : List ℕ) (room : ℕ) → Behind job (said shelf (own (fetch job room)))
-unfolding fromWhole
-any-behind shelf job room n = go (eqb (length shelf) shelfWords) refl (testRow (rowIn shelf)) refl n
+any-behind shelf job room n = go (testShelf (rowIn shelf) shelf) refl n
   where
-    go : (b : Bool) → eqb (length shelf) shelfWords ≡ b → (o : Row) → testRow (rowIn shelf) ≡ o
-        → Behind job (cond b (onRow o (fetchReply (layoutIn shelf) job room shelf) (λ place. refusal 22 place)) (refusal 13 shelfWords))
-    go true e Right f m = whole-behind (layoutIn shelf) (rowed-lawful (rowIn shelf) f) job room shelf (eqb-true (length shelf) shelfWords e) m
-    go true e (Wrong place) f m = absurd (omega (arith, m))
-    go false e o f m = absurd (omega (arith, m))
+    go : (o : Tested) → testShelf (rowIn shelf) shelf ≡ o → Behind job (onTested o (fetchReply (layoutIn shelf) job room shelf) refusal)
+    go Passed e m = let r = passed-ready shelf e in whole-behind (layoutIn shelf) (rowed-lawful (rowIn shelf) (r .row)) job room shelf (r .long) m
+    go (Barred number place) e m = absurd (refused-some (rowIn shelf) shelf number place e m)
 
 -- ---- the words that C gets
 pub fetch-told : (shelf job out answered left : List ℕ) → said shelf (own (fetch job (length out))) .answer .number ≡ 0

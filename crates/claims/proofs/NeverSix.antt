@@ -24,13 +24,13 @@ use Rattle.checked.proofs.Sound.{accepted-read}
 use Rattle.shelf.specs.Fetched.{handed, sameCounts, onJob}
 use Rattle.shelf.specs.Calls.{Call, fetch, own, said}
 use Rattle.shelf.proofs.Picked.{and-left, and-right}
-use Rattle.claims.specs.Read.{jobIn, proposalIn, Reads}
+use Rattle.claims.specs.Read.{jobIn, Reads}
 use Rattle.claims.specs.Lists.{Table, tableFrom, tableFor, fetched}
 use Rattle.claims.specs.LastKept.{ClearedWith, shelfAfter, held}
 use Rattle.claims.proofs.Accepted.{proposal-refused-exactly}
 use Rattle.claims.proofs.LastKept.{fetch-said}
 use Rattle.claims.proofs.AsChecked.{same-proposal, fetched-by-counts}
-use Rattle.claims.proofs.Fetched.{Came, came, Gives, fetched-gives}
+use Rattle.claims.proofs.Fetched.{Came, came, fetched-gives}
 
 abbrev NotSix : Reply → Type 0
 NotSix r = r .answer .number ≡ 6 → ⊥

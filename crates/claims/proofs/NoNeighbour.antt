@@ -18,18 +18,20 @@ use Rattle.jobs.specs.Packs.{readJob}
 use Rattle.jobs.proofs.Readings.{read-jobs-allowed}
 use Rattle.slots.specs.Slots.{slotWords, keptIn, forgotIn}
 use Rattle.counts.specs.declared.Row.{Row}
-use Rattle.counts.specs.declared.Row.the-variants.{Right, Wrong}
-use Rattle.counts.specs.Counts.{shelfWords, countIn, testRow, rowIn, Ready, cleared}
-use Rattle.counts.proofs.Tests.{right-eight}
+use Rattle.counts.specs.declared.Row.the-variants.{Right}
+use Rattle.counts.specs.declared.Tested.{Tested}
+use Rattle.counts.specs.declared.Tested.the-variants.{Passed, Refused as Barred}
+use Rattle.counts.specs.Counts.{shelfWords, countIn, testRow, testShelf, rowIn, Ready, cleared}
+use Rattle.counts.proofs.Tests.{right-eight, shelf-right, passed-both, passed-ready, ready-passed, tested-alike}
 use Rattle.counts.proofs.Cleared.{cleared-row, cleared-length, cleared-span}
 use Rattle.checked.specs.Answers.{Reply, refusal, accepted}
 use Rattle.checked.specs.Checked.{Checked, checkedOf}
 use Rattle.shelf.specs.Fetched.{fetchIn, onJob}
 use Rattle.shelf.specs.Shelf.{forgetReply, Layout, rowed, layoutIn, slotFrom, spanOf, spanIn, sizeOf, onSociety, fromSociety, keptShelf, fetchFrom, fetchReply, forgotShelf, forgotReply}
-use Rattle.shelf.specs.Calls.{Own, Call, keep, fetch, forget, own, clear, laidAfter, laidSaid, wholeAfter, wholeSaid, after, said, firstOf, namedBy, named, is, isNot, names, namesOther}
+use Rattle.shelf.specs.Calls.{Own, Call, keep, fetch, forget, own, clear, laidAfter, laidSaid, after, said, firstOf, namedBy, named, is, isNot, names, namesOther}
 use Rattle.shelf.proofs.Spans.{Lawful, own as its-own, other}
 use Rattle.shelf.proofs.Rows.{rowed-lawful}
-use Rattle.shelf.proofs.Lengths.{on-other, from-other, said-right, said-wrong, after-right, after-wrong, clear-right, clear-wrong}
+use Rattle.shelf.proofs.Answered.{said-passed, after-passed, said-refused, after-refused, clear-passed, clear-refused}
 use Rattle.shelf.proofs.Sound.{Sound, accepted-sound, accepted-named}
 use Rattle.claims.specs.Heard.{heard, without, sent, onlyOwn}
 use Rattle.claims.specs.LastKept.{ClearedWith}
@@ -153,30 +155,29 @@ module _ (rx ry : List ℕ) (ex : testRow rx ≡ Right) (ey : testRow ry ≡ Rig
       go (Refuses number place) e = refl
   laid-told (forget t job) n = from-own t (λ c x. forgetReply slotWords c job x) (eqb-true t s n)
 
--- ---- on any words: a shelf has another length, or a row that is wrong, or is ready
-by-state : (xs : List ℕ) (P : Type 0) → (length xs ≡ shelfWords → testRow (rowIn xs) ≡ Right → P)
-    → (length xs ≡ shelfWords → (place : ℕ) → testRow (rowIn xs) ≡ Wrong place → P) → ((length xs ≡ shelfWords → ⊥) → P) → P
-by-state xs P r w n = go (eqb (length xs) shelfWords) refl (testRow (rowIn xs)) refl
+-- ---- on any words: the test of the shelf refuses it, or it is ready
+by-test : (xs : List ℕ) (P : Type 0) → (Ready xs → P) → ((number place : ℕ) → testShelf (rowIn xs) xs ≡ Barred number place → P) → P
+by-test xs P r b = go (testShelf (rowIn xs) xs) refl
   where
-    go : (b : Bool) → eqb (length xs) shelfWords ≡ b → (o : Row) → testRow (rowIn xs) ≡ o → P
-    go true e Right f = r (eqb-true (length xs) shelfWords e) f
-    go true e (Wrong place) f = w (eqb-true (length xs) shelfWords e) place f
-    go false e o f = n (eqb-false (length xs) shelfWords e)
+    go : (o : Tested) → testShelf (rowIn xs) xs ≡ o → P
+    go Passed e = r (passed-ready xs e)
+    go (Barred number place) e = b number place e
+
+after-ready : (xs : List ℕ) → Ready xs → (call : Own) → laidAfter (layoutIn xs) xs call ≡ after xs (own call)
+after-ready xs r call = after-passed xs call (ready-passed xs r)
 
 -- the row stays
 pub row-of : (call : Own) (xs : List ℕ) → rowIn (after xs (own call)) ≡ rowIn xs
 row-of call xs =
-    by-state xs (rowIn (after xs (own call)) ≡ rowIn xs)
-    (λ len e. ap rowIn (sym (after-right xs len e call)) ∙ laid-row (rowIn xs) e call xs len)
-    (λ len place e. ap rowIn (sym (after-wrong xs len place e call)))
-    (λ n. ap rowIn (sym (on-other xs n (λ s. wholeAfter s (own call)))))
+    by-test xs (rowIn (after xs (own call)) ≡ rowIn xs)
+    (λ r. ap rowIn (sym (after-ready xs r call)) ∙ laid-row (rowIn xs) (r .row) call xs (r .long))
+    (λ number place e. ap rowIn (sym (after-refused xs call number place e)))
 
 length-of : (call : Own) (xs : List ℕ) → length (after xs (own call)) ≡ length xs
 length-of call xs =
-    by-state xs (length (after xs (own call)) ≡ length xs)
-    (λ len e. ap length (sym (after-right xs len e call)) ∙ laid-length (layoutIn xs) (rowed-lawful (rowIn xs) e) call xs len ∙ sym len)
-    (λ len place e. ap length (sym (after-wrong xs len place e call)))
-    (λ n. ap length (sym (on-other xs n (λ s. wholeAfter s (own call)))))
+    by-test xs (length (after xs (own call)) ≡ length xs)
+    (λ r. ap length (sym (after-ready xs r call)) ∙ laid-length (layoutIn xs) (rowed-lawful (rowIn xs) (r .row)) call xs (r .long) ∙ sym (r .long))
+    (λ number place e. ap length (sym (after-refused xs call number place e)))
 
 -- the span by the row as it was
 span-of : (s : ℕ) (call : Own) (xs : List ℕ) → spanIn s (after xs (own call)) ≡ spanOf (layoutIn xs) s (after xs (own call))
@@ -185,10 +186,9 @@ span-of s call xs = ap (λ (r : List ℕ). spanOf (rowed r) s (after xs (own cal
 -- a call that does not name the society leaves its span
 stays : (s : ℕ) → s ≤ 7 → (call : Own) → is s (namedBy call) ≡ false → (xs : List ℕ) → spanIn s (after xs (own call)) ≡ spanIn s xs
 stays s m call n xs =
-    span-of s call xs ∙ by-state xs (spanOf (layoutIn xs) s (after xs (own call)) ≡ spanIn s xs)
-    (λ len e. ap (spanOf (layoutIn xs) s) (sym (after-right xs len e call)) ∙ laid-stays (rowIn xs) e s m xs len call n)
-    (λ len place e. ap (spanOf (layoutIn xs) s) (sym (after-wrong xs len place e call)))
-    (λ f. ap (spanOf (layoutIn xs) s) (sym (on-other xs f (λ z. wholeAfter z (own call)))))
+    span-of s call xs ∙ by-test xs (spanOf (layoutIn xs) s (after xs (own call)) ≡ spanIn s xs)
+    (λ r. ap (spanOf (layoutIn xs) s) (sym (after-ready xs r call)) ∙ laid-stays (rowIn xs) (r .row) s m xs (r .long) call n)
+    (λ number place e. ap (spanOf (layoutIn xs) s) (sym (after-refused xs call number place e)))
 
 pub others-stay : (society : ℕ) (call : Own) → names society (own call) ≡ true → (xs : List ℕ) (neighbour : ℕ) → neighbour ≤ 7 → (neighbour ≡ society → ⊥)
     → spanIn neighbour (after xs (own call)) ≡ spanIn neighbour xs
@@ -198,18 +198,35 @@ others-stay s call n xs t h d = stays t h call (is-other s t (namedBy call) n d)
 module _ (s : ℕ) (xs ys : List ℕ) (x : Ready xs) (y : Ready ys) (ec : countIn (rowIn xs) s ≡ countIn (rowIn ys) s) (a : s ≤ 7 → spanIn s xs ≡ spanIn s ys) where
   told-ready : (call : Own) → is s (namedBy call) ≡ true → said xs (own call) ≡ said ys (own call)
   told-ready call n =
-      sym (said-right xs (x .long) (x .row) call) ∙ laid-told (rowIn xs) (rowIn ys) (x .row) (y .row) s xs ys (x .long) (y .long) ec a call n ∙ said-right ys (y .long) (y .row) call
+      sym (said-passed xs call (ready-passed xs x)) ∙ laid-told (rowIn xs) (rowIn ys) (x .row) (y .row) s xs ys (x .long) (y .long) ec a call n ∙ said-passed ys call (ready-passed ys y)
 
   span-ready : (call : Own) → isNot s (namedBy call) ≡ false → s ≤ 7 → spanIn s (after xs (own call)) ≡ spanIn s (after ys (own call))
   span-ready call n m =
-      span-of s call xs ∙ ap (spanOf (layoutIn xs) s) (sym (after-right xs (x .long) (x .row) call))
+      span-of s call xs ∙ ap (spanOf (layoutIn xs) s) (sym (after-ready xs x call))
       ∙ laid-own (rowIn xs) (rowIn ys) (x .row) (y .row) s xs ys (x .long) (y .long) ec a call n m
-      ∙ ap (spanOf (layoutIn ys) s) (after-right ys (y .long) (y .row) call) ∙ sym (span-of s call ys)
+      ∙ ap (spanOf (layoutIn ys) s) (after-ready ys y call) ∙ sym (span-of s call ys)
 
 pub alone-call : (society : ℕ) → society ≤ 7 → (call : Own) → names society (own call) ≡ true
     → (xs ys : List ℕ) → Ready xs → Ready ys → countIn (rowIn xs) society ≡ countIn (rowIn ys) society → spanIn society xs ≡ spanIn society ys
     → (said xs (own call) ≡ said ys (own call)) × (spanIn society (after xs (own call)) ≡ spanIn society (after ys (own call)))
 alone-call s m call n xs ys x y ec a = (told-ready s xs ys x y ec (λ h. a) call n, span-ready s xs ys x y ec (λ h. a) call (not-other s (namedBy call) n) m)
+
+-- ---- a shelf just cleared is ready, its row is the counts, and its spans are zeros
+record Fresh (s : ℕ) (counts shelf : List ℕ) : Type 0 where
+  ready : Ready shelf
+  its-row : rowIn shelf ≡ rowIn counts
+  span : s ≤ 7 → spanIn s shelf ≡ replicate (slotWords * countIn (rowIn counts) s) 0
+
+fresh-cleared : (s : ℕ) (counts old : List ℕ) → length old ≡ shelfWords → testRow (rowIn counts) ≡ Right → Fresh s counts (cleared (rowIn counts) old)
+fresh-cleared s counts old len e =
+    let row = rowIn counts in
+    let eight = right-eight counts e in
+    let front = cleared-row row eight e old len in
+    record {
+      ready = record { long = cleared-length row eight e old len; row = ap {B = Row} testRow front ∙ e };
+      its-row = front;
+      span = λ m. ap (λ (r : List ℕ). spanOf (rowed r) s (cleared row old)) front ∙ cleared-span row eight e old len s (omega arith);
+    }
 
 -- ---- two shelves of one length with one row and one span, whatever they are
 pub record Alike (s : ℕ) (xs ys : List ℕ) : Type 0 where
@@ -221,25 +238,21 @@ module _ (s : ℕ) (xs ys : List ℕ) (k : Alike s xs ys) where
   other-alike : (call : Own) → is s (namedBy call) ≡ false → Alike s (after xs (own call)) ys
   other-alike call n = record { long = length-of call xs ∙ k .long; row = row-of call xs ∙ k .row; span = λ h. stays s h call n xs ∙ k .span h }
 
-  -- the other shelf is in the same state
-  also : length xs ≡ shelfWords → length ys ≡ shelfWords
-  also len = sym (k .long) ∙ len
+  -- the other shelf is tested alike
+  tested : {o : Tested} → testShelf (rowIn xs) xs ≡ o → testShelf (rowIn ys) ys ≡ o
+  tested e = sym (tested-alike (rowIn ys) xs ys (k .long)) ∙ ap {B = Tested} (λ (r : List ℕ). testShelf r xs) (sym (k .row)) ∙ e
 
-  also-not : (length xs ≡ shelfWords → ⊥) → length ys ≡ shelfWords → ⊥
-  also-not n e = n (k .long ∙ e)
-
-  tested : {o : Row} → testRow (rowIn xs) ≡ o → testRow (rowIn ys) ≡ o
-  tested e = ap {B = Row} testRow (sym (k .row)) ∙ e
+  also-ready : Ready xs → Ready ys
+  also-ready r = passed-ready ys (tested (ready-passed xs r))
 
   same-count : countIn (rowIn xs) s ≡ countIn (rowIn ys) s
   same-count = ap (λ (r : List ℕ). countIn r s) (k .row)
 
   own-span : (call : Own) → isNot s (namedBy call) ≡ false → s ≤ 7 → spanIn s (after xs (own call)) ≡ spanIn s (after ys (own call))
   own-span call n m =
-      by-state xs (spanIn s (after xs (own call)) ≡ spanIn s (after ys (own call)))
-      (λ len e. span-ready s xs ys (record { long = len; row = e }) (record { long = also len; row = tested e }) same-count (k .span) call n m)
-      (λ len place e. ap (spanIn s) (sym (after-wrong xs len place e call)) ∙ k .span m ∙ ap (spanIn s) (after-wrong ys (also len) place (tested e) call))
-      (λ f. ap (spanIn s) (sym (on-other xs f (λ z. wholeAfter z (own call)))) ∙ k .span m ∙ ap (spanIn s) (on-other ys (also-not f) (λ z. wholeAfter z (own call))))
+      by-test xs (spanIn s (after xs (own call)) ≡ spanIn s (after ys (own call)))
+      (λ r. span-ready s xs ys r (also-ready r) same-count (k .span) call n m)
+      (λ number place e. ap (spanIn s) (sym (after-refused xs call number place e)) ∙ k .span m ∙ ap (spanIn s) (after-refused ys call number place (tested e)))
 
   own-alike : (call : Own) → isNot s (namedBy call) ≡ false → Alike s (after xs (own call)) (after ys (own call))
   own-alike call n = record {
@@ -250,38 +263,33 @@ module _ (s : ℕ) (xs ys : List ℕ) (k : Alike s xs ys) where
 
   own-told : (call : Own) → is s (namedBy call) ≡ true → said xs (own call) ≡ said ys (own call)
   own-told call n =
-      by-state xs (said xs (own call) ≡ said ys (own call))
-      (λ len e. told-ready s xs ys (record { long = len; row = e }) (record { long = also len; row = tested e }) same-count (k .span) call n)
-      (λ len place e. sym (said-wrong xs len place e call) ∙ said-wrong ys (also len) place (tested e) call)
-      (λ f. sym (from-other xs f (λ z. wholeSaid z (own call))) ∙ from-other ys (also-not f) (λ z. wholeSaid z (own call)))
+      by-test xs (said xs (own call) ≡ said ys (own call))
+      (λ r. told-ready s xs ys r (also-ready r) same-count (k .span) call n)
+      (λ number place e. sym (said-refused xs call number place e) ∙ said-refused ys call number place (tested e))
 
   -- clearing
   clear-alike : (counts : List ℕ) → Alike s (after xs (clear counts)) (after ys (clear counts))
-  clear-alike counts = go (eqb (length xs) shelfWords) refl (testRow (rowIn counts)) refl
+  clear-alike counts = go (testShelf (rowIn counts) xs) refl
     where
-      go : (b : Bool) → eqb (length xs) shelfWords ≡ b → (o : Row) → testRow (rowIn counts) ≡ o → Alike s (after xs (clear counts)) (after ys (clear counts))
-      go true e Right f =
-          let len = eqb-true (length xs) shelfWords e in
-          let row = rowIn counts in
-          let eight = right-eight counts f in
-          let cx = cleared-row row eight f xs len in
-          let cy = cleared-row row eight f ys (also len) in
-          subst (λ (zs : List ℕ). Alike s zs (after ys (clear counts))) (clear-right xs len counts f .1)
-          (subst (λ (zs : List ℕ). Alike s (cleared row xs) zs) (clear-right ys (also len) counts f .1) (record {
-            long = cleared-length row eight f xs len ∙ sym (cleared-length row eight f ys (also len));
-            row = cx ∙ sym cy;
-            span = λ h.
-                ap (λ (r : List ℕ). spanOf (rowed r) s (cleared row xs)) cx ∙ cleared-span row eight f xs len s (omega arith)
-                ∙ sym (ap (λ (r : List ℕ). spanOf (rowed r) s (cleared row ys)) cy ∙ cleared-span row eight f ys (also len) s (omega arith));
+      row : List ℕ
+      row = rowIn counts
+
+      also : {o : Tested} → testShelf row xs ≡ o → testShelf row ys ≡ o
+      also e = sym (tested-alike row xs ys (k .long)) ∙ e
+
+      go : (o : Tested) → testShelf row xs ≡ o → Alike s (after xs (clear counts)) (after ys (clear counts))
+      go Passed e =
+          let fx = fresh-cleared s counts xs (passed-both row xs e .0) (passed-both row xs e .1) in
+          let fy = fresh-cleared s counts ys (passed-both row ys (also e) .0) (passed-both row xs e .1) in
+          subst (λ (zs : List ℕ). Alike s zs (after ys (clear counts))) (clear-passed xs counts e .1)
+          (subst (λ (zs : List ℕ). Alike s (cleared row xs) zs) (clear-passed ys counts (also e) .1) (record {
+            long = fx .ready .long ∙ sym (fy .ready .long);
+            row = fx .its-row ∙ sym (fy .its-row);
+            span = λ h. fx .span h ∙ sym (fy .span h);
           }))
-      go true e (Wrong place) f =
-          let len = eqb-true (length xs) shelfWords e in
-          subst (λ (zs : List ℕ). Alike s zs (after ys (clear counts))) (clear-wrong xs len counts place f .1)
-          (subst (λ (zs : List ℕ). Alike s xs zs) (clear-wrong ys (also len) counts place f .1) k)
-      go false e o f =
-          let n = eqb-false (length xs) shelfWords e in
-          subst (λ (zs : List ℕ). Alike s zs (after ys (clear counts))) (on-other xs n (λ z. wholeAfter z (clear counts)))
-          (subst (λ (zs : List ℕ). Alike s xs zs) (on-other ys (also-not n) (λ z. wholeAfter z (clear counts))) k)
+      go (Barred number place) e =
+          subst (λ (zs : List ℕ). Alike s zs (after ys (clear counts))) (clear-refused xs counts number place e .1)
+          (subst (λ (zs : List ℕ). Alike s xs zs) (clear-refused ys counts number place (also e) .1) k)
 
   pub stays-alike : (call : Call) → namesOther s call ≡ false → Alike s (after xs call) (after ys call)
   stays-alike (own call) n = own-alike call n
@@ -364,39 +372,25 @@ own-run s m (call ∷ calls) xs ys k =
         ∙ sym (ap (λ (o : Bool). cond o (said ys (own call) ∷ heard s (after ys (own call)) (sent (onlyOwn s calls))) (heard s (after ys (own call)) (sent (onlyOwn s calls)))) n)
     go false n p q = q n
 
--- a shelf just cleared is ready, and its spans are zeros
-record Fresh (s : ℕ) (counts shelf : List ℕ) : Type 0 where
-  ready : Ready shelf
-  count : countIn (rowIn shelf) s ≡ countIn (rowIn counts) s
-  span : spanIn s shelf ≡ replicate (slotWords * countIn (rowIn counts) s) 0
-
-fresh : (s : ℕ) → s ≤ 7 → (counts shelf : List ℕ) → ClearedWith counts shelf → Fresh s counts shelf
-fresh s m counts shelf from =
-    let row = rowIn counts in
-    let e = from .allowed in
-    let old = from .before in
-    let eight = right-eight counts e in
-    let front = cleared-row row eight e old (from .long) in
-    subst (Fresh s counts) (clear-right old (from .long) counts e .1 ∙ sym (from .is)) (record {
-      ready = record { long = cleared-length row eight e old (from .long); row = ap {B = Row} testRow front ∙ e };
-      count = ap (λ (r : List ℕ). countIn r s) front;
-      span = ap (λ (r : List ℕ). spanOf (rowed r) s (cleared row old)) front ∙ cleared-span row eight e old (from .long) s (omega arith);
-    })
+fresh : (s : ℕ) (counts shelf : List ℕ) → ClearedWith counts shelf → Fresh s counts shelf
+fresh s counts shelf from =
+    subst (Fresh s counts) (clear-passed (from .before) counts (shelf-right (rowIn counts) (from .before) (from .long) (from .allowed)) .1 ∙ sym (from .is)) (fresh-cleared s counts (from .before) (from .long) (from .allowed))
 
 module _ (s : ℕ) (m : s ≤ 7) (counts others xs ys : List ℕ) (cx : ClearedWith counts xs) (cy : ClearedWith others ys) (ec : countIn (rowIn counts) s ≡ countIn (rowIn others) s) where
   pub near-cleared : Near s xs ys
   near-cleared =
-      let fx = fresh s m counts xs cx in
-      let fy = fresh s m others ys cy in
+      let fx = fresh s counts xs cx in
+      let fy = fresh s others ys cy in
+      let cut : (row : List ℕ) → ℕ = λ row. countIn row s in
       record {
         x = fx .ready;
         y = fy .ready;
-        count = fx .count ∙ ec ∙ sym (fy .count);
-        span = fx .span ∙ ap (λ (c : ℕ). replicate (slotWords * c) 0) ec ∙ sym (fy .span);
+        count = ap cut (fx .its-row) ∙ ec ∙ sym (ap cut (fy .its-row));
+        span = fx .span m ∙ ap (λ (c : ℕ). replicate (slotWords * c) 0) ec ∙ sym (fy .span m);
       }
 
   pub near-itself : Near s ys ys
-  near-itself = let r = fresh s m others ys cy .ready in record { x = r; y = r; count = refl; span = refl }
+  near-itself = let r = fresh s others ys cy .ready in record { x = r; y = r; count = refl; span = refl }
 
 pub own-decide : (society : ℕ) → society ≤ 7 → (counts others xs ys : List ℕ) → ClearedWith counts xs → ClearedWith others ys → countIn (rowIn counts) society ≡ countIn (rowIn others) society
     → (calls more : List Own) → onlyOwn society calls ≡ onlyOwn society more → heard society xs (sent calls) ≡ heard society ys (sent more)

@@ -1,12 +1,11 @@
 -- Refusals (document 01, "Numbers Mr Aldous reads"): a call's shelf and its reply are chosen by the same tests, and each refusal leaves the shelf.
-use mathlib.Core.Path.{_≡_, refl, sym, ap, _∙_, subst}
+use mathlib.Core.Path.{_≡_, refl, sym, ap, _∙_}
 use mathlib.Core.Bool.{Bool, true, false, cond}
 use mathlib.Core.List.{List, []}
 use Prim.Native.Nat.{ℕ, _*_}
-use lib.Dec.{eqb, leb}
+use lib.Dec.{leb}
 use lib.IntN.{natAbs}
 use lib.ListN.{length, drop}
-use borrow.Author.Tests.{eqb-true, eqb-false}
 use borrow.Rule.Slice.PartMut.{putMid, put-same}
 use Rattle.packs.specs.declared.Outcome.{Outcome}
 use Rattle.packs.specs.declared.Outcome.the-variants.{Done, Refused as Unread}
@@ -22,12 +21,14 @@ use Rattle.checked.specs.Answers.{Reply, refusal, done, accepted, answerOf}
 use Rattle.shelf.specs.Shelf.{forgetReply, Layout, sizeOf, slotFrom, spanOf, onPart, onSociety, fromSociety, keptOn, keptShelf, keepReply, fetchFrom, fetchReply, forgotShelf, forgotReply}
 use Rattle.shelf.specs.Fetched.{keptVerdict, handed, sameCounts, fetchTable, keptCells, keptLinks, keptValues, keptMultipliers, fetchAt, fetchIn, onJob}
 use Rattle.checked.specs.Checked.{Checked, checkedOf}
-use Rattle.counts.specs.declared.Row.{Row}
-use Rattle.counts.specs.declared.Row.the-variants.{Right, Wrong}
-use Rattle.counts.specs.Counts.{shelfWords, testRow, onRow, rowIn, cleared}
+use Rattle.counts.specs.declared.Row.the-variants.{Wrong}
+use Rattle.counts.specs.declared.Tested.{Tested}
+use Rattle.counts.specs.declared.Tested.the-variants.{Passed, Refused as Barred}
+use Rattle.counts.specs.Counts.{shelfWords, testRow, testShelf, onTested, rowIn, cleared}
+use Rattle.counts.proofs.Tests.{shelf-wrong}
 use Rattle.shelf.specs.Shelf.{layoutIn}
-use Rattle.shelf.specs.Calls.{Own, Call, keep, fetch, forget, own, clear, laidAfter, laidSaid, wholeAfter, wholeSaid, after, said}
-use Rattle.shelf.proofs.Lengths.{on-whole, from-whole, on-other, from-other, said-wrong, after-wrong, clear-wrong}
+use Rattle.shelf.specs.Calls.{Own, Call, keep, fetch, forget, own, clear, laidAfter, laidSaid, after, said}
+use Rattle.shelf.proofs.Answered.{said-refused, after-refused, clear-refused}
 use Rattle.claims.specs.ShelfPromises.{Refused, GivesNothing}
 
 -- ---- a span's calls
@@ -122,35 +123,21 @@ module _ (l : Layout) (xs : List ℕ) where
     from-nothing s (forgetReply (l .words) (l .count s) job) (λ x m. forget-empty (l .words) (l .count s) job x) n,
   )
 
--- ---- by the test of a row
-row-nothing : (o : Row) (r : Reply) (xs ys : List ℕ) → (Refused r → (ys ≡ xs) × GivesNothing r) → Refused (onRow o r (λ place. refusal 22 place))
-    → (onRow o ys (λ place. xs) ≡ xs) × GivesNothing (onRow o r (λ place. refusal 22 place))
-row-nothing Right r xs ys k n = k n
-row-nothing (Wrong place) r xs ys k n = (refl, (refl, refl, refl))
+-- ---- on any words, by the test of the shelf
+tested-nothing : (o : Tested) (r : Reply) (xs ys : List ℕ) → (Refused r → (ys ≡ xs) × GivesNothing r) → Refused (onTested o r refusal)
+    → (onTested o ys (λ number place. xs) ≡ xs) × GivesNothing (onTested o r refusal)
+tested-nothing Passed r xs ys k n = k n
+tested-nothing (Barred number place) r xs ys k n = (refl, (refl, refl, refl))
 
-whole-nothing : (xs : List ℕ) (call : Call) → Refused (wholeSaid xs call) → (wholeAfter xs call ≡ xs) × GivesNothing (wholeSaid xs call)
-whole-nothing xs (own call) n = row-nothing (testRow (rowIn xs)) (laidSaid (layoutIn xs) xs call) xs (laidAfter (layoutIn xs) xs call) (laid-nothing (layoutIn xs) xs call) n
-whole-nothing xs (clear counts) n = row-nothing (testRow (rowIn counts)) done xs (cleared (rowIn counts) xs) (λ m. absurd (m refl)) n
-
--- ---- on any words
 pub refused-of : (xs : List ℕ) (call : Call) → Refused (said xs call) → (after xs call ≡ xs) × GivesNothing (said xs call)
-refused-of xs call n = go (eqb (length xs) shelfWords) refl
-  where
-    go : (b : Bool) → eqb (length xs) shelfWords ≡ b → (after xs call ≡ xs) × GivesNothing (said xs call)
-    go true e =
-        let h = eqb-true (length xs) shelfWords e in
-        let r = from-whole xs h (λ s. wholeSaid s call) in
-        let k = whole-nothing xs call (subst Refused (sym r) n) in
-        (sym (on-whole xs h (λ s. wholeAfter s call)) ∙ k .0, subst GivesNothing r (k .1))
-    go false e =
-        let h = eqb-false (length xs) shelfWords e in
-        (sym (on-other xs h (λ s. wholeAfter s call)), subst GivesNothing (from-other xs h (λ s. wholeSaid s call)) (refl, refl, refl))
+refused-of xs (own call) n = tested-nothing (testShelf (rowIn xs) xs) (laidSaid (layoutIn xs) xs call) xs (laidAfter (layoutIn xs) xs call) (laid-nothing (layoutIn xs) xs call) n
+refused-of xs (clear counts) n = tested-nothing (testShelf (rowIn counts) xs) done xs (cleared (rowIn counts) xs) (λ m. absurd (m refl)) n
 
 -- a row that is wrong
 pub wrong-refused : (shelf : List ℕ) → length shelf ≡ shelfWords → (place : ℕ)
     → (testRow (rowIn shelf) ≡ Wrong place → (call : Own) → (said shelf (own call) ≡ refusal 22 place) × (after shelf (own call) ≡ shelf))
     × ((counts : List ℕ) → testRow (rowIn counts) ≡ Wrong place → (said shelf (clear counts) ≡ refusal 22 place) × (after shelf (clear counts) ≡ shelf))
 wrong-refused shelf len place = (
-  λ e call. (sym (said-wrong shelf len place e call), sym (after-wrong shelf len place e call)),
-  λ counts e. (sym (clear-wrong shelf len counts place e .0), sym (clear-wrong shelf len counts place e .1)),
+  λ e call. let t = shelf-wrong (rowIn shelf) shelf len place e in (sym (said-refused shelf call 22 place t), sym (after-refused shelf call 22 place t)),
+  λ counts e. let t = clear-refused shelf counts 22 place (shelf-wrong (rowIn counts) shelf len place e) in (sym (t .0), sym (t .1)),
 )

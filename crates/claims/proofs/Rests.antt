@@ -1,18 +1,17 @@
 -- The words behind the last span: no call touches them, not even clearing.
-use mathlib.Core.Path.{_≡_, refl, sym, ap, ap₂, _∙_, subst}
+use mathlib.Core.Path.{_≡_, refl, sym, ap, _∙_}
 use mathlib.Core.Bool.{Bool, true, false, cond}
-use mathlib.Core.List.{List, _++_, append-assoc}
-use Prim.Native.Nat.{ℕ, _+_, _*_, _≤_}
+use mathlib.Core.List.{List}
+use Prim.Native.Nat.{ℕ, _+_, _≤_}
 use native.Mathlib.Omega.{arith}
-use lib.Dec.{leb, ltb}
-use lib.ListN.{length, take, drop, replicate, length-append, length-drop, length-replicate}
-use lib.Seq.{take-all, drop-at}
-use borrow.Author.Tests.{leb-true, ltb-true, ltb-false}
-use Rattle.slots.specs.Slots.{slotWords}
+use lib.Dec.{leb}
+use lib.ListN.{length, take, drop, length-drop}
+use lib.Seq.{take-all}
+use borrow.Author.Tests.{leb-true}
 use Rattle.counts.specs.declared.Row.the-variants.{Right}
 use Rattle.counts.specs.Counts.{societies, shelfWords, countIn, testRow, rowIn, startIn, restOf, Ready}
 use Rattle.counts.proofs.Below.{below-apart}
-use Rattle.counts.proofs.Tests.{right-eight}
+use Rattle.counts.proofs.Tests.{right-eight, shelf-right, ready-passed}
 use Rattle.counts.proofs.Cleared.{cleared-rest}
 use Rattle.checked.specs.Answers.{accepted}
 use Rattle.checked.specs.Checked.{Checked, checkedOf}
@@ -21,7 +20,7 @@ use Rattle.shelf.specs.Calls.{Own, keep, fetch, forget, own, clear, laidAfter, 
 use Rattle.shelf.proofs.Parts.{on-after}
 use Rattle.shelf.proofs.Spans.{Lawful, society-length}
 use Rattle.shelf.proofs.Rows.{rowed-lawful}
-use Rattle.shelf.proofs.Lengths.{after-right, clear-right}
+use Rattle.shelf.proofs.Answered.{after-passed, clear-passed}
 use Rattle.shelf.proofs.Sound.{Sound, accepted-sound}
 use Rattle.claims.proofs.Steps.{keepStep, forgetStep, kept-same, forgot-same}
 
@@ -74,7 +73,7 @@ module _ (row : List ℕ) (right : testRow row ≡ Right) where
   laid-rest (forget s job) xs len = rest-on s (forgetStep l ok s job) xs len (forgot-same l ok s job xs len)
 
 pub rest-of : (shelf : List ℕ) → Ready shelf → (call : Own) → restOf (rowIn shelf) (after shelf (own call)) ≡ restOf (rowIn shelf) shelf
-rest-of shelf r call = ap (restOf (rowIn shelf)) (sym (after-right shelf (r .long) (r .row) call)) ∙ laid-rest (rowIn shelf) (r .row) call shelf (r .long)
+rest-of shelf r call = ap (restOf (rowIn shelf)) (sym (after-passed shelf call (ready-passed shelf r))) ∙ laid-rest (rowIn shelf) (r .row) call shelf (r .long)
 
 pub rest-cleared : (shelf counts : List ℕ) → length shelf ≡ shelfWords → testRow (rowIn counts) ≡ Right → restOf (rowIn counts) (after shelf (clear counts)) ≡ restOf (rowIn counts) shelf
-rest-cleared shelf counts len e = ap (restOf (rowIn counts)) (sym (clear-right shelf len counts e .1)) ∙ cleared-rest (rowIn counts) (right-eight counts e) e shelf len
+rest-cleared shelf counts len e = ap (restOf (rowIn counts)) (sym (clear-passed shelf counts (shelf-right (rowIn counts) shelf len e) .1)) ∙ cleared-rest (rowIn counts) (right-eight counts e) e shelf len

@@ -4,7 +4,7 @@ use Prim.Native.Nat.{ℕ, _≤_}
 use mathlib.Core.Path.{_≡_, refl, sym, ap, ap₂, _∙_, subst}
 use mathlib.Core.Bool.{Bool, true, false, cond}
 use mathlib.Core.List.{List, [], _∷_}
-use lib.Dec.{eqb, leb}
+use lib.Dec.{leb}
 use lib.ListN.{length}
 use Rattle.numbers.specs.Choice.{if_then_else_}
 use Rattle.slots.specs.declared.Slot.{Slot}
@@ -12,12 +12,15 @@ use Rattle.slots.specs.declared.Slot.the-variants.{At, Nowhere}
 use Rattle.slots.specs.Slots.{lowest, hasJob, atSlot}
 use Rattle.checked.specs.Answers.{Reply, refusal, done, overwritten}
 use Rattle.counts.specs.declared.Row.{Row}
-use Rattle.counts.specs.declared.Row.the-variants.{Right, Wrong}
-use Rattle.counts.specs.Counts.{shelfWords, countIn, testRow, onRow, rowIn, cleared}
-use Rattle.shelf.specs.Shelf.{forgetReply, Layout, layoutIn, spanOf, fromSociety, onWhole, fromWhole, keepReply, forgotReply}
+use Rattle.counts.specs.declared.Row.the-variants.{Right}
+use Rattle.counts.specs.declared.Tested.{Tested}
+use Rattle.counts.specs.declared.Tested.the-variants.{Passed, Refused as Barred}
+use Rattle.counts.specs.Counts.{shelfWords, countIn, testRow, onRow, testShelf, onTested, rowIn, cleared}
+use Rattle.counts.proofs.Tests.{shelf-right}
+use Rattle.shelf.specs.Shelf.{forgetReply, Layout, layoutIn, spanOf, fromSociety, keepReply, forgotReply}
 use Rattle.checked.specs.Checked.{checkedOf}
 use Rattle.shelf.specs.Calls.{Own, Call, keep, fetch, forget, own, clear, named, names, namesOther, after, said}
-use Rattle.shelf.proofs.Lengths.{clear-right}
+use Rattle.shelf.proofs.Answered.{clear-passed}
 use Rattle.bench.specs.Answers.{hasFour, leftFor, Says}
 use Rattle.claims.specs.Lists.{Kept, emptied, keptAfter}
 use Rattle.claims.specs.Seen.{Made, keeps, fetches, forgets, clears, callOf, answerLent, Seen, Makes, MakesAll, seenOf, listsLeft, listsSeen, withoutOthers, ownSeen, ownMade, NoClearing}
@@ -29,17 +32,9 @@ use Rattle.claims.proofs.NoNeighbour.{not-this, Alike, stays-alike, lef
 abbrev NoValues : Reply → Type 0
 NoValues r = r .values ≡ []
 
-whole-none : (f : List ℕ → Reply) (shelf : List ℕ) → NoValues (f shelf) → NoValues (fromWhole f shelf)
-unfolding fromWhole
-whole-none f shelf h = go (eqb (length shelf) shelfWords)
-  where
-    go : (b : Bool) → NoValues (cond b (f shelf) (refusal 13 shelfWords))
-    go true = h
-    go false = refl
-
-row-none : (o : Row) (r : Reply) → NoValues r → NoValues (onRow o r (λ place. refusal 22 place))
-row-none Right r h = h
-row-none (Wrong place) r h = refl
+tested-none : (o : Tested) (r : Reply) → NoValues r → NoValues (onTested o r refusal)
+tested-none Passed r h = h
+tested-none (Barred number place) r h = refl
 
 keep-none : (job proposal : List ℕ) → NoValues (keepReply (checkedOf job proposal))
 unfolding keepReply
@@ -73,14 +68,12 @@ record Fixed (made : Made) (shelf : List ℕ) (seen : Seen) (left : List ℕ) : 
 
 -- a fetch leaves the shelf
 fetch-leaves : (job : List ℕ) (room : ℕ) (shelf answer : List ℕ) → leftFor answer shelf (after shelf (own (fetch job room))) ≡ shelf
-unfolding onWhole
-fetch-leaves job room shelf answer = go (hasFour answer) (eqb (length shelf) shelfWords) (testRow (rowIn shelf))
+fetch-leaves job room shelf answer = go (hasFour answer) (testShelf (rowIn shelf) shelf)
   where
-    go : (b c : Bool) (o : Row) → (if b then cond c (onRow o shelf (λ place. shelf)) shelf else shelf) ≡ shelf
-    go true true Right = refl
-    go true true (Wrong place) = refl
-    go true false o = refl
-    go false c o = refl
+    go : (b : Bool) (o : Tested) → (if b then onTested o shelf (λ number place. shelf) else shelf) ≡ shelf
+    go true Passed = refl
+    go true (Barred number place) = refl
+    go false o = refl
 
 fetch-fixes : (job out answer shelf : List ℕ) (seen : Seen) (left : List ℕ) → Makes (fetches job out answer) shelf seen left → Fixed (fetches job out answer) shelf seen left
 fetch-fixes job out answer shelf seen left m = record {
@@ -105,19 +98,19 @@ makes-fixes (fetches job out answer) shelf seen left m = fetch-fixes job out ans
 makes-fixes (keeps job proposal answer) shelf seen left m =
     let call = own (keep job proposal) in
     record {
-      seen-is = no-output (said shelf call) [] answer shelf (after shelf call) seen left (m .0) (m .1) (whole-none _ shelf (row-none (testRow (rowIn shelf)) _ (keep-none job proposal)));
+      seen-is = no-output (said shelf call) [] answer shelf (after shelf call) seen left (m .0) (m .1) (tested-none (testShelf (rowIn shelf) shelf) _ (keep-none job proposal));
       left-is = m .0 .leaves;
     }
 makes-fixes (forgets society job answer) shelf seen left m =
     let call = own (forget society job) in
     record {
-      seen-is = no-output (said shelf call) [] answer shelf (after shelf call) seen left (m .0) (m .1) (whole-none _ shelf (row-none (testRow (rowIn shelf)) _ (forget-none (layoutIn shelf) society job shelf)));
+      seen-is = no-output (said shelf call) [] answer shelf (after shelf call) seen left (m .0) (m .1) (tested-none (testShelf (rowIn shelf) shelf) _ (forget-none (layoutIn shelf) society job shelf));
       left-is = m .0 .leaves;
     }
 makes-fixes (clears counts answer) shelf seen left m =
     let call = clear counts in
     record {
-      seen-is = no-output (said shelf call) counts answer shelf (after shelf call) seen left (m .0) (m .1) (whole-none _ shelf (row-none (testRow (rowIn counts)) done refl));
+      seen-is = no-output (said shelf call) counts answer shelf (after shelf call) seen left (m .0) (m .1) (tested-none (testShelf (rowIn counts) shelf) done refl);
       left-is = m .0 .leaves;
     }
 
@@ -152,7 +145,7 @@ stands-seen (made ∷ mades) xs k st =
 pub lists-seen : (shelf counts answer : List ℕ) → length shelf ≡ shelfWords → testRow (rowIn counts) ≡ Right → hasFour answer ≡ true → (mades : List Made)
     → shelfSeen shelf (clears counts answer ∷ mades) ≡ listsSeen (emptied counts) (clears counts answer ∷ mades)
 lists-seen shelf counts answer len right four mades =
-    let clearing = clear-right shelf len counts right in
+    let clearing = clear-passed shelf counts (shelf-right (rowIn counts) shelf len right) in
     let left : leftOn shelf (clears counts answer) ≡ cleared (rowIn counts) shelf = ap (λ (b : Bool). if b then after shelf (clear counts) else shelf) four ∙ sym (clearing .1) in
     let lists : listsLeft (emptied counts) (clears counts answer) ≡ emptied counts =
     ap {B = Kept} (λ (b : Bool). if b then keptAfter (emptied counts) (clear counts) else emptied counts) four ∙ ap {B = Kept} (λ (o : Row). onRow o (emptied counts) (λ place. emptied counts)) right in

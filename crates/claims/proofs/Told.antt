@@ -4,7 +4,7 @@ use mathlib.Core.Path.{_≡_, sym, ap₂, _∙_, refl, subst}
 use mathlib.Core.Bool.{Bool, true, false, cond, true≢false}
 use mathlib.Core.List.{List}
 use native.Mathlib.Omega.{arith}
-use lib.Dec.{eqb, leb}
+use lib.Dec.{leb}
 use lib.IntN.{ℤ, pos, negsuc, natAbs, _-ℤ_}
 use lib.ListN.{length}
 use lib.Signed.{_≤ℤ_}
@@ -20,13 +20,14 @@ use Rattle.measure.specs.declared.check.Verdict.the-variants.{Accepted, Refused
 use Rattle.measure.specs.Loss.{familyOf, familyAcross, acrossAt, lossOf}
 use Rattle.measure.specs.Check.{checkOf}
 use Rattle.measure.proofs.Directions.{loss-at-most}
-use Rattle.counts.specs.declared.Row.{Row}
-use Rattle.counts.specs.declared.Row.the-variants.{Right, Wrong}
-use Rattle.counts.specs.Counts.{shelfWords, testRow, onRow, rowIn}
+use Rattle.counts.specs.declared.Tested.{Tested}
+use Rattle.counts.specs.declared.Tested.the-variants.{Passed, Refused as Barred}
+use Rattle.counts.specs.Counts.{testShelf, onTested, rowIn}
+use Rattle.counts.proofs.Tests.{refused-some}
 use Rattle.checked.specs.Answers.{Reply, refusal, accepted, answerOf}
 use Rattle.checked.specs.Checked.{checkedOf}
 use Rattle.shelf.specs.Fetched.{handed}
-use Rattle.shelf.specs.Shelf.{layoutIn, fromWhole, keepReply}
+use Rattle.shelf.specs.Shelf.{layoutIn, keepReply}
 use Rattle.shelf.specs.Calls.{own, keep, laidSaid, said}
 use Rattle.bench.specs.Answers.{answerWords}
 use Rattle.claims.specs.Read.{jobIn, valuesIn, lossIn}
@@ -85,16 +86,15 @@ told-of job proposal answered (Accepted F G) e n w =
 
 pub kept-told : (job proposal shelf answered : List ℕ) → said shelf (own (keep job proposal)) .answer .number ≡ 0
     → answered ≡ answerWords (said shelf (own (keep job proposal)) .answer) → ToldBest job proposal 0 answered
-unfolding fromWhole keepReply checkedOf
-kept-told job proposal shelf answered n w = go (eqb (length shelf) shelfWords) (testRow (rowIn shelf)) n w
+unfolding keepReply checkedOf
+kept-told job proposal shelf answered n w = go (testShelf (rowIn shelf) shelf) refl n w
   where
-    by : Bool → Row → Reply
-    by t o = cond t (onRow o (laidSaid (layoutIn shelf) shelf (keep job proposal)) (λ place. refusal 22 place)) (refusal 13 shelfWords)
+    by : Tested → Reply
+    by o = onTested o (laidSaid (layoutIn shelf) shelf (keep job proposal)) refusal
 
-    go : (t : Bool) (o : Row) → by t o .answer .number ≡ 0 → answered ≡ answerWords (by t o .answer) → ToldBest job proposal 0 answered
-    go true Right m u = told-of job proposal answered (checkOf job proposal) refl m u
-    go true (Wrong place) m u = absurd (omega (arith, m))
-    go false o m u = absurd (omega (arith, m))
+    go : (o : Tested) → testShelf (rowIn shelf) shelf ≡ o → by o .answer .number ≡ 0 → answered ≡ answerWords (by o .answer) → ToldBest job proposal 0 answered
+    go Passed e m u = told-of job proposal answered (checkOf job proposal) refl m u
+    go (Barred number place) e m u = absurd (refused-some (rowIn shelf) shelf number place e m)
 
 -- ---- the values that a fetch hands out, by the check's verdict on a proposal
 pub record Handed (job proposal values : List ℕ) (r : Reply) : Type 0 where

@@ -1,7 +1,7 @@
 -- What is promised of the shelf: short statements about `after` and `said`, which the contracts of `keep`, `fetch`, `forget` and `clear` cite. A call
 -- carries the packs and numbers that are sent and the room that is lent; none of them is assumed to be sound. The proof of each stands in
 -- proofs/ShelfPromises.antt.
-use Prim.Native.Nat.{ℕ, _+_, _*_, _≤_}
+use Prim.Native.Nat.{ℕ, _≤_}
 use mathlib.Core.Path.{_≡_}
 use mathlib.Core.Bool.{true, false}
 use mathlib.Core.Option.{some}

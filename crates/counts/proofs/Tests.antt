@@ -6,8 +6,8 @@ use mathlib.Core.List.{List, [], _∷_}
 use Prim.Native.Nat.{ℕ, zero, suc, _+_, _*_, _<_, _≤_}
 use native.Mathlib.Omega.{arith}
 use lib.Dec.{eqb, leb, ltb}
-use lib.ListN.{length, take, drop, getD}
-use lib.Seq.{length-take-le, take-all, getD-drop, getD-take, drop-drop}
+use lib.ListN.{length, drop, getD}
+use lib.Seq.{length-take-le, take-all, getD-take, drop-drop}
 use borrow.Author.Tests.{le-leb, lt-leb, leb-true, leb-false, lt-ltb, le-ltb, ltb-false, eq-eqb, ne-eqb, eqb-true}
 use Rattle.slots.specs.declared.Slot.{Slot}
 use Rattle.slots.specs.declared.Slot.the-variants.{At, Nowhere}
@@ -206,6 +206,19 @@ module _ (row shelf : List ℕ) where
       go true Right q f = let z : _≡_ {A = ℕ} 0 1 = cc in absurd (omega arith)
       go true (Wrong at) q f = let n : 22 ≡ number = cc in let p : at ≡ place = cc in inr (sym n, omega (arith, wrong-place row at q))
       go false o q f = let n : 13 ≡ number = cc in let p : shelfWords ≡ place = cc in inl (sym n, sym p)
+
+-- so the number is not 0
+pub refused-some : (row shelf : List ℕ) (number place : ℕ) → testShelf row shelf ≡ Refused number place → number ≡ 0 → ⊥
+refused-some row shelf number place e z = go (refused-either row shelf number place e)
+  where
+    go : ((number ≡ 13) × (place ≡ shelfWords)) ⊎ ((number ≡ 22) × (place ≤ societies)) → ⊥
+    go (inl h) = omega (arith, h .0)
+    go (inr h) = omega (arith, h .0)
+
+-- it goes by the row and by the shelf's length alone
+pub tested-alike : (row xs ys : List ℕ) → length xs ≡ length ys → testShelf row xs ≡ testShelf row ys
+unfolding testShelf
+tested-alike row xs ys e = ap {B = Tested} (λ (n : ℕ). cond (eqb n shelfWords) (onRow (testRow row) Passed (λ place. Refused 22 place)) (Refused 13 shelfWords)) e
 
 -- ---- a shelf that is ready
 pub passed-ready : (shelf : List ℕ) → testShelf (rowIn shelf) shelf ≡ Passed → Ready shelf

@@ -5,7 +5,6 @@ use native.Mathlib.Omega.{arith}
 use lib.ListN.{drop}
 use Rattle.slots.proofs.Lowest.{left, left-start, left-found, left-next, left-end}
 use Rattle.counts.specs.Counts.{societies, isWrong, lowestWrong}
-use borrow.Author.Needs.{needs}
 use Rattle.counts.proofs.lowest_wrong.Statement.{statement}
 use Rattle.counts.proofs.lowest_wrong.Tie as tie
 

@@ -24,6 +24,10 @@ use Rattle.counts.specs.declared.Row.the-variants.{Right, Wrong}
 use Rattle.counts.specs.Counts.{countIn, testRow, onRow, rowIn}
 use Rattle.shelf.specs.Calls.{Own, Call, keep, fetch, forget, own, clear, after, said}
 use Rattle.claims.specs.Lists.{Table, tableFrom, isOf, holds, replaced, removed, youngest, kept, tableFor, fetched, Lists, onList, keptLists, listsAfter, Kept, emptied, keptAfter}
+use Rattle.claims.specs.CountsPromises.{fours}
+use Rattle.claims.specs.Heard.{sent}
+use Rattle.claims.proofs.CountsPromises.{four-each}
+use Rattle.claims.proofs.NoNeighbour.{row-of}
 use Rattle.claims.specs.LastKept.{ClearedWith, isFor, lastBy, lastAfter, lastFrom, lastKept, shelfAfter, allAfter, held, given}
 use Rattle.claims.specs.Read.{jobIn, Reads}
 use Rattle.checked.proofs.Sound.{accepted-read, values-count}
@@ -357,3 +361,14 @@ module _ (counts shelf : List ℕ) (from : ClearedWith counts shelf) where
   few-of calls s h =
       let st = all-stands counts shelf from calls in
       subst (λ (row : List ℕ). length (held counts calls s) ≤ countIn row s) (sym (st .row)) (st .sim .spans s h .few)
+
+-- ---- four each: only a clearing changes the counts
+row-sent : (calls : List Own) (xs : List ℕ) → rowIn (shelfAfter xs (sent calls)) ≡ rowIn xs
+row-sent [] xs = refl
+row-sent (call ∷ calls) xs = row-sent calls (after xs (own call)) ∙ row-of call xs
+
+pub four-of : (shelf : List ℕ) → ClearedWith fours shelf → (calls : List Own) (society : ℕ) → society ≤ 7 → length (held fours (sent calls) society) ≤ 4
+four-of shelf from calls s h =
+    let same : rowIn (shelfAfter shelf (sent calls)) ≡ fours = row-sent calls shelf ∙ from-cleared fours shelf from .row in
+    let few = few-of fours shelf from (sent calls) s h in
+    omega (arith, ap (λ (row : List ℕ). countIn row s) same ∙ four-each .1 s h .0)

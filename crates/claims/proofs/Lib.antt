@@ -15,13 +15,13 @@ pub mod Laid
 pub mod Steps
 pub mod EightLists
 pub mod AsChecked
-pub mod LastKept
+pub mod CountsPromises
 pub mod NoNeighbour
+pub mod LastKept
 pub mod Rests
 pub mod Refusals
 pub mod Fetched
 pub mod NeverSix
-pub mod CountsPromises
 pub mod ShelfPromises
 pub mod Along
 pub mod HousePromises

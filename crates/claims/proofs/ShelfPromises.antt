@@ -3,12 +3,12 @@ use mathlib.Core.Path.{_∙_}
 use Rattle.checked.specs.Checked.{checkedOf}
 use Rattle.checked.proofs.Sound.{accepted-read}
 use Rattle.claims.specs.Lists.{tableFrom}
-use Rattle.claims.specs.ShelfPromises.{EightLists, NoNeighbour, OwnSpanDecides, OwnCallsDecide, OtherSpansStay, RowStays, RestStays, RestStaysCleared, WrongRowRefused, LastKeptFetched, FetchedAsChecked, SameJobFetched, NeverSix, LostRefused, FewHeld, FetchedAccepted, RefusedStays}
+use Rattle.claims.specs.ShelfPromises.{EightLists, NoNeighbour, OwnSpanDecides, OwnCallsDecide, OtherSpansStay, RowStays, RestStays, RestStaysCleared, WrongRowRefused, LastKeptFetched, FetchedAsChecked, SameJobFetched, NeverSix, LostRefused, FewHeld, FourHeld, FetchedAccepted, RefusedStays}
 use Rattle.claims.proofs.EightLists.{lists-of}
 use Rattle.claims.proofs.NoNeighbour.{alone, alone-call, own-decide, others-stay, row-of}
 use Rattle.claims.proofs.Rests.{rest-of, rest-cleared}
 use Rattle.claims.proofs.AsChecked.{fetched-by-counts}
-use Rattle.claims.proofs.LastKept.{last-of, same-given, lost-of, few-of}
+use Rattle.claims.proofs.LastKept.{last-of, same-given, lost-of, few-of, four-of}
 use Rattle.claims.proofs.Fetched.{fetched-of}
 use Rattle.claims.proofs.NeverSix.{never-six-of}
 use Rattle.claims.proofs.Refusals.{refused-of, wrong-refused}
@@ -60,6 +60,9 @@ lost-refused = lost-of
 
 pub few-held : FewHeld
 few-held = few-of
+
+pub four-held : FourHeld
+four-held = four-of
 
 pub fetched-accepted : FetchedAccepted
 fetched-accepted = fetched-of

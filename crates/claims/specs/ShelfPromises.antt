@@ -20,6 +20,7 @@ use Rattle.shelf.specs.Calls.{Own, Call, fetch, own, clear, after, said, shelfR
 use Rattle.claims.specs.Read.{jobIn, Reads}
 use Rattle.claims.specs.Lists.{Table, tableFrom, tableFor, holds, emptied, listsRun}
 use Rattle.claims.specs.Heard.{heard, without, sent, onlyOwn}
+use Rattle.claims.specs.CountsPromises.{fours}
 use Rattle.claims.specs.LastKept.{ClearedWith, lastKept, shelfAfter, held, given}
 use Rattle.claims.specs.Fetched.{IsAccepted}
 
@@ -122,6 +123,10 @@ abbrev pub FewHeld : Type 0
 FewHeld =
     (counts shelf : List ℕ) → ClearedWith counts shelf → (calls : List Call) (society : ℕ) → society ≤ 7
     → length (held counts calls society) ≤ countIn (rowIn (shelfAfter shelf calls)) society
+
+-- "at most four" is an instance: from a shelf that was cleared with four for each society, whatever the societies then send.
+abbrev pub FourHeld : Type 0
+FourHeld = (shelf : List ℕ) → ClearedWith fours shelf → (calls : List Own) (society : ℕ) → society ≤ 7 → length (held fours (sent calls) society) ≤ 4
 
 -- A fetched table is accepted for the job presented: its F and G carry demand 3 for this job.
 abbrev pub FetchedAccepted : Type 0

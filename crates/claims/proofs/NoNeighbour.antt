@@ -376,6 +376,10 @@ fresh : (s : ℕ) (counts shelf : List ℕ) → ClearedWith counts shelf → Fre
 fresh s counts shelf from =
     subst (Fresh s counts) (clear-passed (from .before) counts (shelf-right (rowIn counts) (from .before) (from .long) (from .allowed)) .1 ∙ sym (from .is)) (fresh-cleared s counts (from .before) (from .long) (from .allowed))
 
+pub cleared-of : (counts shelf : List ℕ) → ClearedWith counts shelf
+    → (rowIn shelf ≡ rowIn counts) × ((society : ℕ) → society ≤ 7 → spanIn society shelf ≡ replicate (slotWords * countIn (rowIn counts) society) 0)
+cleared-of counts shelf from = (fresh 0 counts shelf from .its-row, λ s m. fresh s counts shelf from .span m)
+
 module _ (s : ℕ) (m : s ≤ 7) (counts others xs ys : List ℕ) (cx : ClearedWith counts xs) (cy : ClearedWith others ys) (ec : countIn (rowIn counts) s ≡ countIn (rowIn others) s) where
   pub near-cleared : Near s xs ys
   near-cleared =

@@ -3,9 +3,9 @@ use mathlib.Core.Path.{_∙_}
 use Rattle.checked.specs.Checked.{checkedOf}
 use Rattle.checked.proofs.Sound.{accepted-read}
 use Rattle.claims.specs.Lists.{tableFrom}
-use Rattle.claims.specs.ShelfPromises.{EightLists, NoNeighbour, OwnSpanDecides, OwnCallsDecide, OtherSpansStay, RowStays, RestStays, RestStaysCleared, WrongRowRefused, LastKeptFetched, FetchedAsChecked, SameJobFetched, NeverSix, LostRefused, FewHeld, FourHeld, FetchedAccepted, RefusedStays}
+use Rattle.claims.specs.ShelfPromises.{EightLists, NoNeighbour, OwnSpanDecides, OwnCallsDecide, OtherSpansStay, RowStays, ClearingSets, RestStays, RestStaysCleared, WrongRowRefused, LastKeptFetched, FetchedAsChecked, SameJobFetched, NeverSix, LostRefused, FewHeld, FourHeld, FetchedAccepted, RefusedStays}
 use Rattle.claims.proofs.EightLists.{lists-of}
-use Rattle.claims.proofs.NoNeighbour.{alone, alone-call, own-decide, others-stay, row-of}
+use Rattle.claims.proofs.NoNeighbour.{alone, alone-call, own-decide, others-stay, row-of, cleared-of}
 use Rattle.claims.proofs.Rests.{rest-of, rest-cleared}
 use Rattle.claims.proofs.AsChecked.{fetched-by-counts}
 use Rattle.claims.proofs.LastKept.{last-of, same-given, lost-of, few-of, four-of}
@@ -30,6 +30,9 @@ other-spans-stay = others-stay
 
 pub row-stays : RowStays
 row-stays = row-of
+
+pub clearing-sets : ClearingSets
+clearing-sets = cleared-of
 
 pub rest-stays : RestStays
 rest-stays = rest-of

@@ -1,18 +1,19 @@
 -- What is promised of the shelf: short statements about `after` and `said`, which the contracts of `keep`, `fetch`, `forget` and `clear` cite. A call
 -- carries the packs and numbers that are sent and the room that is lent; none of them is assumed to be sound. The proof of each stands in
 -- proofs/ShelfPromises.antt.
-use Prim.Native.Nat.{ℕ, _≤_}
+use Prim.Native.Nat.{ℕ, _*_, _≤_}
 use mathlib.Core.Path.{_≡_}
 use mathlib.Core.Bool.{true, false}
 use mathlib.Core.Option.{some}
 use mathlib.Core.List.{List, []}
-use lib.ListN.{length}
+use lib.ListN.{length, replicate}
 use Rattle.numbers.specs.Choice.{if_then_else_}
 use Rattle.jobs.specs.Packs.{readJob}
 use Rattle.measure.specs.Check.{checkOf}
 use Rattle.checked.specs.Answers.{Reply, refusal, accepted}
 use Rattle.checked.specs.Checked.{checkedOf}
 use Rattle.shelf.specs.Fetched.{handed, sameCounts}
+use Rattle.slots.specs.Slots.{slotWords}
 use Rattle.counts.specs.declared.Row.the-variants.{Right, Wrong}
 use Rattle.counts.specs.Counts.{shelfWords, countIn, testRow, rowIn, restOf, Ready}
 use Rattle.shelf.specs.Shelf.{spanIn}
@@ -60,6 +61,12 @@ OtherSpansStay =
 
 abbrev pub RowStays : Type 0
 RowStays = (call : Own) (shelf : List ℕ) → rowIn (after shelf (own call)) ≡ rowIn shelf
+
+-- A clearing with counts that are allowed sets them, and every society's span becomes zeros; from any words.
+abbrev pub ClearingSets : Type 0
+ClearingSets =
+    (counts shelf : List ℕ) → ClearedWith counts shelf
+    → (rowIn shelf ≡ rowIn counts) × ((society : ℕ) → society ≤ 7 → spanIn society shelf ≡ replicate (slotWords * countIn (rowIn counts) society) 0)
 
 -- "the rest of it is never touched, even by clearing": the words behind the last span of a row, after a society's call and after a clearing.
 abbrev pub RestStays : Type 0

@@ -54,7 +54,7 @@ onSociety l society f shelf = cond (leb society 7) (onPart (l .start society) (s
 unfoldable pub fromSociety : Layout → (society : ℕ) → (f : List ℕ → Reply) → List ℕ → Reply
 fromSociety l society f shelf = cond (leb society 7) (f (spanOf l society shelf)) (refusal 11 0)
 
--- ---- the calls, by the layout of a shelf that has all its words
+-- ---- the calls, by the layout of a shelf that passes its test
 -- the table of an accepted check as a slot
 abbrev pub slotFrom : Layout → Checked → List ℕ
 slotFrom l o = slotOf (l .words) (o .job) (answerOf (o .verdict) .loss) (answerOf (o .verdict) .gap) (o .values) (o .multipliers)

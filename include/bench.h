@@ -2,7 +2,7 @@
  *
  * The bench reads a job (one society's table to be graduated: a line of ages, or a grid for a select table), checks a proposed table with its
  * multipliers, makes a proposal of its own, and keeps accepted tables on a shelf that the caller lends. Document 01 has the rules, with request
- * W-205 for grids, W-203 for a fetch that checks and W-209 for counts of slots; this page has what a caller needs.
+ * W-205 for grids, W-203 for a fetch that checks, W-209 for counts of slots and W-202 for the terms of a gap; this page has what a caller needs.
  *
  * WHAT EVERY CALL DOES
  *
@@ -21,7 +21,7 @@
  * THE NUMBERS
  *
  *     No.  given when                                              place
- *     0    done                                                    bytes, values or numbers written to an output; else 0
+ *     0    done                                                    bytes, values, numbers or words written to an output; else 0
  *     1    job pack: number unreadable, or spare bytes             offset of its first byte, or of the first spare byte
  *     2    job pack: number not allowed                            offset of its first byte
  *     3    floor above ceiling                                     cell
@@ -33,7 +33,8 @@
  *          fetch: a kept number not allowed                        its word within the slot: 7 + cell, or 127 + link
  *     7    value outside its box                                   lowest such cell
  *     8    link broken                                             lowest such link
- *     9    gap above the tolerance                                 0
+ *     9    gap above the tolerance                                 that of the largest term of the gap: a cell's number, or n + the
+ *                                                                  link's number; the lowest of those that are equal
  *     10   house proposal: data too thin                           cell
  *     11   forget: society above 7                                 0
  *     12   fetch or forget: nothing kept under that number         0
@@ -46,9 +47,9 @@
  *          at keep, fetch and forget those found on the shelf      8 for a total above 32
  *
  * The first that applies is given, in this order: answer slice, shelf length, 22; then the job pack from its first byte to its last (1 and 2
- * for each number, 3 after each ceiling, 4 after the last cell, 5 after each term, spare bytes last); then 6, 7, 8, 9, or for fetch 12, 6, 7, 8, 9,
- * or for propose 20, 10; for forget, which takes no pack, 11, then 12; and the output's length last. A wrong answer slice is not written to: only
- * the returned number tells it.
+ * for each number, 3 after each ceiling, 4 after the last cell, 5 after each term, spare bytes last); then 6, 7, 8, 9, or for terms 6, 7, 8, or for
+ * fetch 12, 6, 7, 8, 9, or for propose 20, 10; for forget, which takes no pack, 11, then 12; and the output's length last. A wrong answer slice
+ * is not written to: only the returned number tells it.
  *
  * PACKS
  *
@@ -94,8 +95,8 @@
  *   - No two slices of one call overlap, unless the call only reads both. The counts of bench_clear are no part of the shelf: copy its row to clear
  *     it with the counts that it has. A pointer to const is only read.
  *   - BENCH_STACK_BYTES of stack are free, or for a job that is no grid BENCH_LINE_STACK_BYTES: a call puts its working room there. In
- *     bytes, as measured: check 20,736, keep 21,968, fetch 20,640, read 17,080, write 17,144; propose 29,128 for a line and 57,976 for a
- *     grid; forget and clear below 100.
+ *     bytes, as measured: check 20,624, terms 20,600, keep 21,824, fetch 20,704, read 17,080, write 17,144; propose 29,128 for a line and
+ *     57,976 for a grid; forget and clear below 100.
  *   - a call names the right society: every call acts for the society that its job pack or its argument names, whoever makes it.
  *
  * Calls may run at the same time on several threads as long as no slice that one of them writes is lent to another. Calls on different
@@ -143,11 +144,11 @@ extern "C" {
  *      too and never 11; a slot has 287 words, with the link count and the multipliers, so BENCH_SHELF_WORDS is 9,184
  *   4  counts of slots: the shelf begins with a row of eight counts, so BENCH_SHELF_WORDS is 9,192; bench_clear takes the counts; 22 for counts not
  *      allowed, at every call on the shelf
+ *   5  what holds a table back: the place of 9, which was always 0, is that of the largest term of the gap; bench_terms, a ninth call, tells all terms
  *
- * Moving from version 3: a shelf of version 3 has 9,184 words and no row, and no call takes it (13) or turns it into a shelf of version 4. Lend 9,192
- * words, clear them with the counts wanted, and keep each table again from its job pack and proposal pack, each society's oldest first. With four for
- * each society everything is as it was before. */
-#define BENCH_VERSION 4
+ * Moving from version 4: the shelf, acceptance, F and G are as they were, so nothing has to be kept again. A caller that took the place of 9 for 0 finds a
+ * cell there, or n plus a link. */
+#define BENCH_VERSION 5
 
 /* No call needs more stack than this, and none on a job that is no grid more than the second. */
 #define BENCH_STACK_BYTES 65536
@@ -165,6 +166,7 @@ extern "C" {
 #define BENCH_MOST_PROPOSAL_BYTES 1160 /* a proposal pack */
 #define BENCH_MOST_HOUSE_BYTES 520     /* a house proposal, whose multipliers are all 0: the output of bench_propose */
 #define BENCH_MOST_VALUES 120          /* a table's values: the output of bench_fetch */
+#define BENCH_MOST_TERM_WORDS 840      /* the terms of a gap, 3 words for each cell and link: the output of bench_terms */
 
 /* The numbers of the table above. */
 enum bench_number {
@@ -186,6 +188,13 @@ enum bench_number {
     BENCH_BAD_COUNTS = 22
 };
 
+/* What supplied a term of the gap: the third of bench_terms' words. */
+enum bench_side {
+    BENCH_BY_BOX = 0,
+    BENCH_BY_WEIGHT = 1,
+    BENCH_BY_LINK = 2
+};
+
 /* The number and the place of what a call returned. */
 #define BENCH_NUMBER(said) ((said) % 32)
 #define BENCH_PLACE(said) ((said) / 32)
@@ -195,6 +204,15 @@ enum bench_number {
  * answer. Numbers: 0 to 9, 13. */
 uint64_t bench_check(const uint8_t *job, size_t job_bytes, const uint8_t *proposal, size_t proposal_bytes,
                      uint64_t *answer, size_t answer_words);
+
+/* Tells what a proposal's gap is made of, whether or not the check accepts it: 9 is no refusal here. `out` gets three words for each cell and then for
+ * each link: its term of the gap; its residual, which is the slope of the loss in its value with the multipliers' parts added, so that above 0 it asks
+ * for a lower value and below 0 for a higher one (0 for a link); and its side, one of enum bench_side. A cell term is by its weight only where the weight
+ * is above 0, the residual within -2*10^9..2*10^9, and its square over 4 times the weight, rounded up, below the box term; else it is by its box. No term
+ * is negative and each fits its word; together they are the gap, which may pass 64 bits. The place of 9 is that of the largest, the lowest of those that
+ * are equal. Done: the place is the count of words, 3 times (n + links). Numbers: 0 to 8, 13. */
+uint64_t bench_terms(const uint8_t *job, size_t job_bytes, const uint8_t *proposal, size_t proposal_bytes,
+                     int64_t *out, size_t out_words, uint64_t *answer, size_t answer_words);
 
 /* Makes the house proposal for a job and writes it to `out` as a proposal pack, all multipliers 0. Done: the place is the pack's bytes. It
  * ignores links and has no privilege: the check may refuse it. A grid may have 12 columns at most. Numbers: 0 to 5, 10, 13,

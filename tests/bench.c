@@ -40,6 +40,7 @@ static uint64_t on_bench(enum function function)
     uint32_t society = (uint32_t)draft.job.society, number = (uint32_t)draft.job.number;
     switch (function) {
     case CHECK: return bench_check(job.at, job.count, proposal.at, proposal.count, answer, ANSWER_WORDS);
+    case TERMS: return bench_terms(job.at, job.count, proposal.at, proposal.count, word_room, BENCH_MOST_JOB_WORDS, answer, ANSWER_WORDS);
     case PROPOSE: return bench_propose(job.at, job.count, byte_room, sizeof byte_room, answer, ANSWER_WORDS);
     case KEEP: return bench_keep(shelf, SHELF_WORDS, job.at, job.count, proposal.at, proposal.count, answer, ANSWER_WORDS);
     case FETCH: return bench_fetch(shelf, SHELF_WORDS, job.at, job.count, values, MOST_CELLS, answer, ANSWER_WORDS);
@@ -55,6 +56,7 @@ static uint64_t on_twin(enum function function)
     uint32_t society = (uint32_t)draft.job.society, number = (uint32_t)draft.job.number;
     switch (function) {
     case CHECK: return twin_check(job.at, job.count, proposal.at, proposal.count, answer, ANSWER_WORDS);
+    case TERMS: return twin_terms(job.at, job.count, proposal.at, proposal.count, word_room, BENCH_MOST_JOB_WORDS, answer, ANSWER_WORDS);
     case PROPOSE: return twin_propose(job.at, job.count, byte_room, sizeof byte_room, answer, ANSWER_WORDS);
     case KEEP: return twin_keep(shelf, SHELF_WORDS, job.at, job.count, proposal.at, proposal.count, answer, ANSWER_WORDS);
     case FETCH: return twin_fetch(shelf, SHELF_WORDS, job.at, job.count, values, MOST_CELLS, answer, ANSWER_WORDS);

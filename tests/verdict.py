@@ -1,5 +1,5 @@
-"""Loss, gap and the check's verdict by document 01 ("Loss and gap", "Order") and W-205, in Python's whole numbers, which have no limit and never
-wrap."""
+"""Loss, gap and the check's verdict by document 01 ("Loss and gap", "Order"), W-202 and W-205, in Python's whole numbers, which have no limit and
+never wrap."""
 from packs import Refused, job_of, proposal_of
 
 ROWS = {1: [-1, 1], 2: [1, -2, 1], 3: [-1, 3, -3, 1], 4: [1, -4, 6, -4, 1]}
@@ -49,8 +49,17 @@ def cell_terms(job, v, r):
 def link_terms(job, v, multipliers):
     return [y * (b - term_sum(terms, v)) for (terms, b), y in zip(job.links, multipliers)]
 
+def terms_by_place(job, v, multipliers, differences=differences):
+    """Every term of the gap: the place of a cell is its number, that of a link n plus its number."""
+    return cell_terms(job, v, residuals(job, v, multipliers, differences)) + link_terms(job, v, multipliers)
+
 def gap(job, v, multipliers, differences=differences):
-    return sum(cell_terms(job, v, residuals(job, v, multipliers, differences))) + sum(link_terms(job, v, multipliers))
+    return sum(terms_by_place(job, v, multipliers, differences))
+
+def largest(job, v, multipliers):
+    """The place of the largest term, the lowest if several are equal (W-202)."""
+    terms = terms_by_place(job, v, multipliers)
+    return terms.index(max(terms))
 
 def verdict(job, v, multipliers):
     """Number, place, F and G for two packs that read well."""
@@ -61,7 +70,7 @@ def verdict(job, v, multipliers):
         if term_sum(terms, v) > b:
             return [8, j, 0, 0]
     g = gap(job, v, multipliers)
-    return [9, 0, 0, 0] if g > job.tolerance else [0, 0, loss(job, v), g]
+    return [9, largest(job, v, multipliers), 0, 0] if g > job.tolerance else [0, 0, loss(job, v), g]
 
 def checked(job_pack, proposal_pack):
     """Number, place, F and G for any two packs."""

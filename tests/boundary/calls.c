@@ -7,7 +7,7 @@
 #include <stdio.h>
 #include <string.h>
 
-const char *const call_names[FUNCTIONS] = {"check", "propose", "keep", "fetch", "forget", "clear", "read", "write"};
+const char *const call_names[FUNCTIONS] = {"check", "terms", "propose", "keep", "fetch", "forget", "clear", "read", "write"};
 
 static const uint64_t NOT_RETURNED = UINT64_MAX;
 
@@ -16,6 +16,7 @@ static uint64_t on_bench(const struct call *c, void *const *p)
     const struct slice *s = c->slice;
     switch (c->function) {
     case CHECK: return bench_check(p[0], s[0].count, p[1], s[1].count, p[2], s[2].count);
+    case TERMS: return bench_terms(p[0], s[0].count, p[1], s[1].count, p[2], s[2].count, p[3], s[3].count);
     case PROPOSE: return bench_propose(p[0], s[0].count, p[1], s[1].count, p[2], s[2].count);
     case KEEP: return bench_keep(p[0], s[0].count, p[1], s[1].count, p[2], s[2].count, p[3], s[3].count);
     case FETCH: return bench_fetch(p[0], s[0].count, p[1], s[1].count, p[2], s[2].count, p[3], s[3].count);
@@ -31,6 +32,7 @@ static uint64_t on_twin(const struct call *c, void *const *p)
     const struct slice *s = c->slice;
     switch (c->function) {
     case CHECK: return twin_check(p[0], s[0].count, p[1], s[1].count, p[2], s[2].count);
+    case TERMS: return twin_terms(p[0], s[0].count, p[1], s[1].count, p[2], s[2].count, p[3], s[3].count);
     case PROPOSE: return twin_propose(p[0], s[0].count, p[1], s[1].count, p[2], s[2].count);
     case KEEP: return twin_keep(p[0], s[0].count, p[1], s[1].count, p[2], s[2].count, p[3], s[3].count);
     case FETCH: return twin_fetch(p[0], s[0].count, p[1], s[1].count, p[2], s[2].count, p[3], s[3].count);

@@ -4,7 +4,7 @@
 
 #include "lent.h"
 
-enum function { CHECK, PROPOSE, KEEP, FETCH, FORGET, CLEAR, READ, WRITE, FUNCTIONS };
+enum function { CHECK, TERMS, PROPOSE, KEEP, FETCH, FORGET, CLEAR, READ, WRITE, FUNCTIONS };
 
 /* The slices stand in the order of the call's own; the last is the answer slice. The counts of a clearing, an array, stand among them. `grid` if its job,
  * before any damage, is a grid. Only forget takes society and job by themselves. */

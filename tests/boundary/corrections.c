@@ -76,16 +76,24 @@ static void mend_shape(struct random *r, struct twin_job *job)
     shape_add_weights(job);
 }
 
+/* A tolerance below the kept table's gap, if it has any. */
+static void tighten(struct random *r, struct draft *d)
+{
+    int64_t gap = draft_gap(d);
+    d->job.tolerance = gap == 0 ? 0 : random_chance(r, 50) ? gap - 1 : random_below(r, gap);
+}
+
 void correct_job(struct random *r, struct draft *d)
 {
-    switch (random_below(r, 7)) {
+    switch (random_below(r, 9)) {
     case 0:
     case 1: mend_exposures(r, &d->job); break;
     case 2: mend_box(r, d); break;
     case 3: mend_link(r, d); break;
     case 4: mend_constants(r, &d->job); break;
     case 5: mend_shape(r, &d->job); break;
-    default: draft_settle(r, d); return;
+    case 6: draft_settle(r, d); return;
+    default: tighten(r, d); return;
     }
     if (random_chance(r, 60))
         draft_settle(r, d);

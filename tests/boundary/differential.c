@@ -1,10 +1,11 @@
 /* The bench against the twin: random calls with the same memory, compared in what they return and in every lent byte.
  * Arguments: the seed, the count of calls, and `end` or `start` if slices shall lie flush against a page that nobody may touch.
  * It ends with 1 at the first mismatch, or if a call never ended in some number that it can give, of 13 in one of the lengths, of 22 in one of the
- * places, or if no span of some count of slots was ever full. */
+ * places, if no span of some count of slots was ever full, or if no gap above the tolerance had its largest term in some kind of place. */
 #define _POSIX_C_SOURCE 200809L
 #include "calls.h"
 #include "../../include/bench.h"
+#include "nines.h"
 #include "reached.h"
 #include "scenes.h"
 
@@ -32,14 +33,15 @@ static enum outcome outcome_of(const struct call *c, uint64_t said)
     return has_shelf && c->slice[0].count != BENCH_SHELF_WORDS ? WRONG_SHELF : SHORT_ROOM;
 }
 
-/* The outcomes that each call can have, as bits. A fetch never gives 11. Every call on a shelf gives 22. */
+/* The outcomes that each call can have, as bits. A fetch never gives 11, and terms never 9. Every call on a shelf gives 22. */
 static uint64_t bit(int outcome) { return (uint64_t)1 << outcome; }
 static uint64_t possible(int shape, int function)
 {
-    const uint64_t pack = 0x3F, check = 0x3FF, answer = bit(WRONG_ANSWER), shelf = bit(WRONG_SHELF) | bit(22), room = bit(SHORT_ROOM);
+    const uint64_t pack = 0x3F, meets = 0x1FF, check = 0x3FF, answer = bit(WRONG_ANSWER), shelf = bit(WRONG_SHELF) | bit(22), room = bit(SHORT_ROOM);
     bool grid = shape == 1;
     switch (function) {
     case CHECK: return check | answer;
+    case TERMS: return meets | answer | room;
     case KEEP: return check | answer | shelf;
     case PROPOSE: return pack | bit(10) | answer | room | (grid ? bit(20) : 0);
     case FETCH: return check | bit(12) | answer | shelf | room;
@@ -139,12 +141,14 @@ static int run(uint64_t count)
         const void *after = lent_at(0, 0, &call.slice[0]);
         tally[call.grid][call.function][outcome_of(&call, said[0])]++;
         reached_note(&call, said[0], after);
+        nines_note(&call, said[0]);
         scene_shelf(&call, said[0], after);
     }
     print_tally(0);
     print_tally(1);
     reached_print();
-    return judge_tally(0) | judge_tally(1) | reached_judge();
+    nines_print();
+    return judge_tally(0) | judge_tally(1) | reached_judge() | nines_judge();
 }
 
 int main(int argc, char **argv)

@@ -3,6 +3,7 @@
 #include "drafts.h"
 #include "extremes.h"
 #include "shapes.h"
+#include "ties.h"
 
 #include <string.h>
 
@@ -145,11 +146,16 @@ static void close_boxes(struct random *r, struct draft *d, int percent)
     }
 }
 
-void draft_settle(struct random *r, struct draft *d)
+int64_t draft_gap(struct draft *d)
 {
     d->job.tolerance = MOST_TOLERANCE;
     struct twin_answer a = twin_judge(&d->job, &d->table);
-    int64_t gap = a.number == 0 ? (int64_t)a.gap : MOST_TOLERANCE;
+    return a.number == 0 ? (int64_t)a.gap : MOST_TOLERANCE;
+}
+
+void draft_settle(struct random *r, struct draft *d)
+{
+    int64_t gap = draft_gap(d);
     int64_t way = random_below(r, 10);
     if (way < 5)
         d->job.tolerance = gap;
@@ -172,8 +178,12 @@ static void draw_counts(struct random *r, const struct twin_job *job, int64_t *l
 
 void draft_make(struct random *r, struct draft *d)
 {
-    int64_t kind = random_below(r, 100), links, terms;
+    int64_t kind = random_below(r, 108), links, terms;
     draw_header(r, &d->job);
+    if (kind >= 100) {
+        ties_make(r, d);
+        return;
+    }
     if (kind < 4) {
         extreme_residual(r, d);
     } else if (kind == 4) {

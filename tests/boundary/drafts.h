@@ -22,6 +22,9 @@ void draft_full(struct random *r, int64_t order_field, struct draft *draft);
 /* The same of a grid of so many columns and these orders. */
 void draft_full_grid(struct random *r, int64_t columns, int64_t down, int64_t across, struct draft *draft);
 
+/* Sets the largest tolerance and answers the gap of the draft's table, or that tolerance if the check refuses it. */
+int64_t draft_gap(struct draft *draft);
+
 /* Sets the tolerance: the gap of the draft's table, one off, any other, or the largest. */
 void draft_settle(struct random *r, struct draft *draft);
 

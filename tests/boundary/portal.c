@@ -5,8 +5,8 @@
 #include <stdio.h>
 #include <string.h>
 
-/* Counts of slots came with version 4. */
-#if BENCH_VERSION < 4
+/* The list of terms came with version 5. */
+#if BENCH_VERSION < 5
 #error "include/bench.h is older than this caller"
 #endif
 
@@ -52,6 +52,11 @@ static void expect_answer(uint64_t said, uint64_t number, uint64_t place, uint64
 static uint64_t check(const uint8_t *job, size_t job_bytes, const uint8_t *proposal, size_t proposal_bytes)
 {
     return bench_check(job, job_bytes, proposal, proposal_bytes, answer, BENCH_ANSWER_WORDS);
+}
+
+static uint64_t terms(const uint8_t *job, size_t job_bytes, const uint8_t *proposal, size_t proposal_bytes, int64_t *out, size_t words)
+{
+    return bench_terms(job, job_bytes, proposal, proposal_bytes, out, words, answer, BENCH_ANSWER_WORDS);
 }
 
 static uint64_t keep(const uint8_t *job, size_t job_bytes, const uint8_t *proposal, size_t proposal_bytes)
@@ -203,6 +208,67 @@ static void select_table(void)
     expect(values[0] == 9 && values[1] == 7 && values[2] == 8 && values[3] == 8, "row by row");
 }
 
+/* LINKED with v 3 2 1 and the multipliers 3 2. There is no difference, so the residuals are 6 - 3, -6 + 3 and 2 + 2. The square of cell 0 is 9/4
+ * rounded up and less than 3*3, that of cell 1 less than 3*98; in cell 2 both sides are 4. The links have room 1 and 49: G is 3 + 3 + 4 + 3 + 98. */
+static const uint8_t HELD_BACK[] = {3, 2, 1, 3, 2};
+static const int64_t HELD_BACK_TERMS[] = {3, 3, 1, 3, -3, 1, 4, 4, 0, 3, 0, 2, 98, 0, 2};
+
+/* A list of terms, of a table that the check refuses, and in room of every kind. */
+static void terms_are_listed(void)
+{
+    enum { WORDS = 15, ROOM = 17 };
+    int64_t out[ROOM], untouched[ROOM];
+    memset(untouched, 0xEE, sizeof untouched);
+    memcpy(out, untouched, sizeof out);
+    expect_answer(check(LINKED, sizeof LINKED, HELD_BACK, 5), BENCH_GAP_ABOVE_TOLERANCE, 4, 0, 0, "a table that link 1 holds back");
+    expect_answer(terms(LINKED, sizeof LINKED, HELD_BACK, 5, out, WORDS - 1), BENCH_WRONG_LENGTH, WORDS, 0, 0, "a list into one word less");
+    expect_answer(terms(LINKED, sizeof LINKED, HELD_BACK, 5, out, 0), BENCH_WRONG_LENGTH, WORDS, 0, 0, "a list into no words");
+    expect(bench_terms(LINKED, sizeof LINKED, HELD_BACK, 5, out, ROOM, answer, 3) == 32 * 4 + 13, "a list with an answer slice of three words");
+    expect(memcmp(out, untouched, sizeof out) == 0, "refused lists write no word");
+    expect_answer(terms(LINKED, sizeof LINKED, HELD_BACK, 5, out, WORDS), BENCH_DONE, WORDS, 0, 0, "a list into as many words");
+    expect(memcmp(out, HELD_BACK_TERMS, sizeof HELD_BACK_TERMS) == 0, "term, residual and side of each cell, then of each link");
+    memcpy(out, untouched, sizeof out);
+    expect_answer(terms(LINKED, sizeof LINKED, HELD_BACK, 5, out, ROOM), BENCH_DONE, WORDS, 0, 0, "a list into two words more");
+    expect(memcmp(out, HELD_BACK_TERMS, sizeof HELD_BACK_TERMS) == 0, "the same list");
+    expect(memcmp(out + WORDS, untouched, (ROOM - WORDS) * sizeof *out) == 0, "the words behind it stay");
+}
+
+/* A table that the check accepts is listed too; of the select table with constant 2 the residuals are 2 -2 -2 2, and so its terms 1 each. Without a
+ * weight in cell 1 the worked example has a residual of 8 there, from its difference alone, and the box supplies the term 8*3. */
+static void other_lists(void)
+{
+    const int64_t best[9] = {0}, square[] = {1, 2, 1, 1, -2, 1, 1, -2, 1, 1, 2, 1}, weightless[] = {0, 0, 0, 24, 8, 0, 0, 0, 0};
+    uint8_t select[sizeof SELECT], job[sizeof JOB];
+    int64_t out[12];
+    expect_answer(terms(JOB, sizeof JOB, PROPOSAL, 3, out, 12), BENCH_DONE, 9, 0, 0, "a list of the worked example");
+    expect(memcmp(out, best, sizeof best) == 0, "has no residual, which counts as the box's");
+    memcpy(select, SELECT, sizeof SELECT);
+    select[9] = 2;
+    expect_answer(terms(select, sizeof select, SELECT_PROPOSAL, 4, out, 12), BENCH_DONE, 12, 0, 0, "a list of a select table");
+    expect(memcmp(out, square, sizeof square) == 0, "row by row");
+    memcpy(job, JOB, sizeof JOB);
+    job[11] = 0;
+    expect_answer(terms(job, sizeof job, PROPOSAL, 3, out, 12), BENCH_DONE, 9, 0, 0, "a list without a weight in cell 1");
+    expect(memcmp(out, weightless, sizeof weightless) == 0, "the box supplies the term there");
+}
+
+/* The limit of the square: of two cells with values and crude rates 1,000,000 and weights 1,000 the first has ten times the multiplier of its tight
+ * link for a residual. At 2,000,000,000 the weight supplies 10^15, half of what the box would; beyond that the box does. */
+static void residual_limit(void)
+{
+    const int64_t words[] = {3, 7, 2, 1, 1, 0, 1000000, 1000, 0, 1000000, 1000000, 1000, 0, 1000000, 1, 1, 0, 10, 10000000};
+    const uint8_t at[] = {0xC0, 0x84, 0x3D, 0xC0, 0x84, 0x3D, 0x80, 0x84, 0xAF, 0x5F};
+    const uint8_t beyond[] = {0xC0, 0x84, 0x3D, 0xC0, 0x84, 0x3D, 0x81, 0x84, 0xAF, 0x5F};
+    uint8_t pack[64];
+    int64_t out[9];
+    size_t bytes = (size_t)BENCH_PLACE(bench_write(words, sizeof words / sizeof *words, pack, sizeof pack, answer, BENCH_ANSWER_WORDS));
+    expect_answer(terms(pack, bytes, at, sizeof at, out, 9), BENCH_DONE, 9, 0, 0, "a residual of 2,000,000,000");
+    expect(out[0] == 1000000000000000 && out[1] == 2000000000 && out[2] == 1, "the weight supplies the term");
+    expect_answer(terms(pack, bytes, beyond, sizeof beyond, out, 9), BENCH_DONE, 9, 0, 0, "a residual of 2,000,000,010");
+    expect(out[0] == 2000000010000000 && out[1] == 2000000010 && out[2] == 0, "the box supplies the term");
+    expect(out[6] == 0 && out[7] == 0 && out[8] == 2, "a tight link has no term");
+}
+
 /* The words of a slot: n, job, F and G in two words each, the count of links; then the values, then the multipliers. */
 enum { SLOT_WORDS = 287, AT_LINKS = 6, AT_VALUES = 7, AT_MULTIPLIERS = 127 };
 
@@ -279,6 +345,31 @@ static void corrected_links(void)
     expect_answer(fetch(LINKED, sizeof LINKED, out, 3), BENCH_NOTHING_KEPT, 0, 0, 0, "the same job with links");
 }
 
+/* The place of 9 at check, keep and fetch. With the multipliers 3 1 the residual of cell 2 is 3, and so are both its sides; link 1 has the term 49:
+ * F = 9 + 9 + 1, G = 3 + 3 + 3 + 3 + 49. With v2 <= 1 the other four terms are the largest, and the lowest cell has the place. */
+static void largest_terms(void)
+{
+    const uint8_t proposal[] = {3, 2, 1, 3, 1};
+    uint8_t job[sizeof LINKED];
+    uint32_t out[3] = {9, 9, 9};
+    clear();
+    expect_answer(keep(LINKED, sizeof LINKED, HELD_BACK, 5), BENCH_GAP_ABOVE_TOLERANCE, 4, 0, 0, "keep names link 1 as 3 + 1");
+    expect(shelf_is_empty(), "and keeps nothing");
+    expect_answer(keep(LINKED, sizeof LINKED, proposal, 5), BENCH_DONE, 0, 19, 61, "a gap of 61 is kept, with place 0");
+    memcpy(job, LINKED, sizeof LINKED);
+    for (job[5] = 0; job[5] < 61; job[5]++) {
+        expect_answer(check(job, sizeof job, proposal, 5), BENCH_GAP_ABOVE_TOLERANCE, 4, 0, 0, "check names link 1 whatever the tolerance is");
+        expect_answer(fetch(job, sizeof job, out, 3), BENCH_GAP_ABOVE_TOLERANCE, 4, 0, 0, "and so does fetch");
+    }
+    expect(out[0] == 9, "and writes no value");
+    job[28] = 2;
+    for (job[5] = 0; job[5] < 12; job[5]++) {
+        expect_answer(check(job, sizeof job, proposal, 5), BENCH_GAP_ABOVE_TOLERANCE, 0, 0, 0, "the lowest of equal places");
+        expect_answer(fetch(job, sizeof job, out, 3), BENCH_GAP_ABOVE_TOLERANCE, 0, 0, 0, "the lowest of equal places at fetch");
+    }
+    expect_answer(fetch(job, sizeof job, out, 3), BENCH_DONE, 3, 19, 12, "a tolerance of 12 is enough");
+}
+
 /* SELECT's cells as a line of order 1 and tolerance 18. The differences of 9 7 8 8 are -2 1 0, the residuals -6 4 4 -2: F = 52 + 5 = 57 and
  * G = 9 + 4 + 4 + 1 = 18. */
 static void line_and_grid(void)
@@ -304,7 +395,7 @@ static void spoilt_words(void)
         {"a kept value of 1,000,000 in cell 1", AT_VALUES + 1, 1000000, BENCH_OUTSIDE_BOX, 1, 0, 0},
         {"a kept multiplier of 10^9 + 1 at link 0", AT_MULTIPLIERS, 1000000001, BENCH_BAD_PROPOSAL, 127, 0, 0},
         {"a kept multiplier of 10^9 + 1 at link 1", AT_MULTIPLIERS + 1, 1000000001, BENCH_BAD_PROPOSAL, 128, 0, 0},
-        {"a kept multiplier of 10^9 at link 1", AT_MULTIPLIERS + 1, 1000000000, BENCH_GAP_ABOVE_TOLERANCE, 0, 0, 0},
+        {"a kept multiplier of 10^9 at link 1", AT_MULTIPLIERS + 1, 1000000000, BENCH_GAP_ABOVE_TOLERANCE, 4, 0, 0},
         {"a kept multiplier of 0 at link 0", AT_MULTIPLIERS, 0, BENCH_DONE, 3, 15, 2},
         {"a value that no cell has", AT_VALUES + 3, 4294967295, BENCH_DONE, 3, 15, 0},
         {"a multiplier that no link has", AT_MULTIPLIERS + 2, 4294967295, BENCH_DONE, 3, 15, 0},
@@ -376,6 +467,7 @@ static void job_refusals(void)
     };
     uint8_t pack[64], out[BENCH_MOST_HOUSE_BYTES];
     uint32_t no_words[1];
+    int64_t list[1];
     clear();
     keep(JOB, sizeof JOB, PROPOSAL, 3);
     for (size_t i = 0; i < sizeof cases / sizeof *cases; i++) {
@@ -383,6 +475,7 @@ static void job_refusals(void)
         memcpy(pack, c->pack, c->bytes);
         pack[c->at] = c->to;
         expect_answer(check(pack, c->bytes, PROPOSAL, 3), c->number, c->place, 0, 0, c->what);
+        expect_answer(terms(pack, c->bytes, PROPOSAL, 0, list, 0), c->number, c->place, 0, 0, c->what);
         expect_answer(bench_propose(pack, c->bytes, out, sizeof out, answer, BENCH_ANSWER_WORDS), c->number, c->place, 0, 0, c->what);
         expect_answer(keep(pack, c->bytes, PROPOSAL, 3), c->number, c->place, 0, 0, c->what);
         expect_answer(fetch(pack, c->bytes, no_words, 0), c->number, c->place, 0, 0, c->what);
@@ -393,22 +486,34 @@ static void weight_refusals(void)
 {
     uint8_t pack[sizeof LINKED];
     uint32_t no_words[1];
+    int64_t list[1];
     memcpy(pack, LINKED, sizeof LINKED);
     pack[7] = pack[11] = 0;
     expect_answer(check(pack, sizeof LINKED, PROPOSAL, 3), BENCH_FEW_WEIGHTS, 0, 0, 0, "one positive weight where the order is 2");
+    expect_answer(terms(pack, sizeof LINKED, PROPOSAL, 0, list, 0), BENCH_FEW_WEIGHTS, 0, 0, 0, "one positive weight for a list of terms");
     expect_answer(fetch(pack, sizeof LINKED, no_words, 0), BENCH_FEW_WEIGHTS, 0, 0, 0, "one positive weight at a fetch");
+}
+
+/* The check and the list of terms refuse a proposal alike, whatever room the list has. */
+static void expect_both(const uint8_t *job, size_t job_bytes, const uint8_t *proposal, size_t bytes, uint64_t number, uint64_t place, const char *what)
+{
+    int64_t list[18] = {-7};
+    expect_answer(check(job, job_bytes, proposal, bytes), number, place, 0, 0, what);
+    expect_answer(terms(job, job_bytes, proposal, bytes, list, 18), number, place, 0, 0, what);
+    expect_answer(terms(job, job_bytes, proposal, bytes, list, 0), number, place, 0, 0, what);
+    expect(list[0] == -7, "a refused list writes no word");
 }
 
 static void proposal_refusals(void)
 {
     const uint8_t cut[] = {2, 3}, spare[] = {2, 3, 2, 0}, above[] = {2, 0xC1, 0x84, 0x3D, 2}, outside[] = {2, 3, 101};
     const uint8_t broken[] = {2, 3, 1, 2, 0}, off[] = {2, 3, 3};
-    expect_answer(check(JOB, sizeof JOB, cut, 2), BENCH_BAD_PROPOSAL, 2, 0, 0, "a proposal cut off");
-    expect_answer(check(JOB, sizeof JOB, spare, 4), BENCH_BAD_PROPOSAL, 3, 0, 0, "a spare byte after a proposal");
-    expect_answer(check(JOB, sizeof JOB, above, 5), BENCH_BAD_PROPOSAL, 1, 0, 0, "a value of 1,000,001");
-    expect_answer(check(JOB, sizeof JOB, outside, 3), BENCH_OUTSIDE_BOX, 2, 0, 0, "a value above its ceiling");
-    expect_answer(check(LINKED, sizeof LINKED, broken, 5), BENCH_LINK_BROKEN, 0, 0, 0, "a broken link");
-    expect_answer(check(JOB, sizeof JOB, off, 3), BENCH_GAP_ABOVE_TOLERANCE, 0, 0, 0, "a gap above the tolerance");
+    expect_both(JOB, sizeof JOB, cut, 2, BENCH_BAD_PROPOSAL, 2, "a proposal cut off");
+    expect_both(JOB, sizeof JOB, spare, 4, BENCH_BAD_PROPOSAL, 3, "a spare byte after a proposal");
+    expect_both(JOB, sizeof JOB, above, 5, BENCH_BAD_PROPOSAL, 1, "a value of 1,000,001");
+    expect_both(JOB, sizeof JOB, outside, 3, BENCH_OUTSIDE_BOX, 2, "a value above its ceiling");
+    expect_both(LINKED, sizeof LINKED, broken, 5, BENCH_LINK_BROKEN, 0, "a broken link");
+    expect_answer(check(JOB, sizeof JOB, off, 3), BENCH_GAP_ABOVE_TOLERANCE, 1, 0, 0, "a gap above the tolerance, with the terms 1 4 4");
 }
 
 /* n 120, order 2, k 1,000, weight 1 in cells 0 and 1 only, made with the writer. */
@@ -473,19 +578,25 @@ static size_t largest_words(const int64_t *header, size_t at, int64_t *words)
     return at;
 }
 
+/* The proposal of the most bytes: 120 values of 1,000,000 and 160 multipliers of 10^9. */
+static void largest_proposal(uint8_t *proposal)
+{
+    const uint8_t million[] = {0xC0, 0x84, 0x3D}, milliard[] = {0x80, 0x94, 0xEB, 0xDC, 0x03};
+    for (int i = 0; i < BENCH_MOST_CELLS; i++)
+        memcpy(proposal + 3 * i, million, 3);
+    for (int l = 0; l < BENCH_MOST_LINKS; l++)
+        memcpy(proposal + 360 + 5 * l, milliard, 5);
+}
+
 /* The largest job: the lengths that bench.h names are reached, and one byte less is too few. Its links leave so much room that multipliers
- * of 10^9 make a vast gap: 9 says that the proposal was read whole. */
+ * of 10^9 make a vast gap: 9 says that the proposal was read whole. The links' terms are equal, so its place is that of link 0. */
 static void largest_job(void)
 {
     static int64_t words[BENCH_MOST_JOB_WORDS], again[BENCH_MOST_JOB_WORDS];
     static uint8_t pack[BENCH_MOST_JOB_BYTES], proposal[BENCH_MOST_PROPOSAL_BYTES + 1], out[BENCH_MOST_HOUSE_BYTES];
     const int64_t header[] = {7, 4294967295, 120, 5, 10, 12, 4, 4, 500, 500, 1000000000000000};
-    const uint8_t million[] = {0xC0, 0x84, 0x3D}, milliard[] = {0x80, 0x94, 0xEB, 0xDC, 0x03};
     size_t at = largest_words(header, 11, words);
-    for (int i = 0; i < BENCH_MOST_CELLS; i++)
-        memcpy(proposal + 3 * i, million, 3);
-    for (int l = 0; l < BENCH_MOST_LINKS; l++)
-        memcpy(proposal + 360 + 5 * l, milliard, 5);
+    largest_proposal(proposal);
     uint64_t said = bench_write(words, at, pack, BENCH_MOST_JOB_BYTES - 1, answer, BENCH_ANSWER_WORDS);
     expect_answer(said, BENCH_WRONG_LENGTH, BENCH_MOST_JOB_BYTES, 0, 0, "the largest job needs all bytes");
     said = bench_write(words, at, pack, BENCH_MOST_JOB_BYTES, answer, BENCH_ANSWER_WORDS);
@@ -496,9 +607,33 @@ static void largest_job(void)
     said = bench_propose(pack, sizeof pack, out, BENCH_MOST_HOUSE_BYTES, answer, BENCH_ANSWER_WORDS);
     expect_answer(said, BENCH_DONE, BENCH_MOST_HOUSE_BYTES, 0, 0, "the largest house proposal");
     said = check(pack, sizeof pack, proposal, BENCH_MOST_PROPOSAL_BYTES);
-    expect_answer(said, BENCH_GAP_ABOVE_TOLERANCE, 0, 0, 0, "the largest proposal is read");
+    expect_answer(said, BENCH_GAP_ABOVE_TOLERANCE, BENCH_MOST_CELLS, 0, 0, "the largest proposal is read");
     said = check(pack, sizeof pack, proposal, BENCH_MOST_PROPOSAL_BYTES + 1);
     expect_answer(said, BENCH_BAD_PROPOSAL, BENCH_MOST_PROPOSAL_BYTES, 0, 0, "and nothing may follow it");
+}
+
+/* The largest job with floors 0. The residuals of cells 116 to 119 are 160 times 10 times 10^9, above 0 and below in turn: two terms of 1.6*10^18, and
+ * none where the value stands at its ceiling. Each link has 10^18. Every term fits 64 bits, and their total passes them. */
+static void widest_list(void)
+{
+    static int64_t words[BENCH_MOST_JOB_WORDS], out[3 * (BENCH_MOST_CELLS + BENCH_MOST_LINKS)], expected[3 * (BENCH_MOST_CELLS + BENCH_MOST_LINKS)];
+    static uint8_t pack[BENCH_MOST_JOB_BYTES], proposal[BENCH_MOST_PROPOSAL_BYTES];
+    const int64_t header[] = {7, 4294967295, 120, 5, 10, 12, 4, 4, 500, 500, 1000000000000000}, link[] = {1000000000000000000, 0, 2};
+    const int64_t above[] = {1600000000000000000, 1600000000000, 0}, below[] = {0, -1600000000000, 0};
+    const size_t most = sizeof out / sizeof *out;
+    size_t at = largest_words(header, 11, words);
+    for (int i = 0; i < BENCH_MOST_CELLS; i++)
+        words[11 + 4 * i + 2] = 0;
+    for (int i = 116; i < BENCH_MOST_CELLS; i++)
+        memcpy(expected + 3 * i, i % 2 == 0 ? above : below, sizeof above);
+    for (int l = 0; l < BENCH_MOST_LINKS; l++)
+        memcpy(expected + 3 * (BENCH_MOST_CELLS + l), link, sizeof link);
+    size_t bytes = (size_t)BENCH_PLACE(bench_write(words, at, pack, sizeof pack, answer, BENCH_ANSWER_WORDS));
+    largest_proposal(proposal);
+    expect_answer(check(pack, bytes, proposal, sizeof proposal), BENCH_GAP_ABOVE_TOLERANCE, 116, 0, 0, "the widest gap");
+    expect_answer(terms(pack, bytes, proposal, sizeof proposal, out, most - 1), BENCH_WRONG_LENGTH, most, 0, 0, "the longest list into one word less");
+    expect_answer(terms(pack, bytes, proposal, sizeof proposal, out, most), BENCH_DONE, most, 0, 0, "the longest list");
+    expect(memcmp(out, expected, sizeof out) == 0, "terms that pass 64 bits only together");
 }
 
 static void largest_line(void)
@@ -671,9 +806,13 @@ int main(void)
     proposals();
     round_trip();
     select_table();
+    terms_are_listed();
+    other_lists();
+    residual_limit();
     slot_words();
     corrected_job();
     corrected_links();
+    largest_terms();
     line_and_grid();
     spoilt_words();
     duplicate_slots();
@@ -683,6 +822,7 @@ int main(void)
     thin_refusal();
     wide_refusal();
     largest_job();
+    widest_list();
     largest_line();
     shelf_refusals();
     old_shelf(4032);

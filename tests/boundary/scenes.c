@@ -189,30 +189,53 @@ static void lend_job(struct call *c)
     lend(c, job_pack.at, job_pack.count, 1, false);
 }
 
-/* Check, propose, read and write: the calls without a shelf. */
+/* A job pack and a proposal for it: check, terms and keep take both. */
+static void lend_packs(struct random *r, struct call *c)
+{
+    draw_job(r, &drawn);
+    draw_proposal(r);
+    lend_job(c);
+    lend(c, proposal_pack.at, proposal_pack.count, 1, false);
+}
+
+/* What the twin wrote into ample room, by what it returned. */
+static uint64_t written(uint64_t said) { return said % 32 == 0 ? said / 32 : 0; }
+
+static void lend_terms(struct random *r, struct call *c)
+{
+    int64_t room[TERM_WORDS * (MOST_CELLS + MOST_LINKS)];
+    uint64_t answer[ANSWER_WORDS];
+    size_t most = sizeof room / sizeof *room;
+    uint64_t said = twin_terms(job_pack.at, job_pack.count, proposal_pack.at, proposal_pack.count, room, most, answer, ANSWER_WORDS);
+    lend_output(r, c, written(said), most, sizeof *room);
+}
+
+/* Check, terms, propose, read and write: the calls without a shelf. */
 static void pack_call(struct random *r, struct call *c)
 {
     static uint64_t room[MOST_NUMBERS], answer[ANSWER_WORDS];
-    uint64_t said = 13;
+    uint64_t said;
     if (c->function == WRITE) {
         draw_words(r);
         said = twin_write(job_words.at, job_words.count, (uint8_t *)room, sizeof room, answer, ANSWER_WORDS);
         c->grid = shape_is_grid(&draft->job);
         lend(c, job_words.at, job_words.count, sizeof(int64_t), false);
-        lend_output(r, c, said % 32 == 0 ? said / 32 : 0, 3586, 1);
-        return;
-    }
-    draw_job(r, &drawn);
-    lend_job(c);
-    if (c->function == CHECK) {
-        draw_proposal(r);
-        lend(c, proposal_pack.at, proposal_pack.count, 1, false);
+        lend_output(r, c, written(said), 3586, 1);
+    } else if (c->function == CHECK) {
+        lend_packs(r, c);
+    } else if (c->function == TERMS) {
+        lend_packs(r, c);
+        lend_terms(r, c);
     } else if (c->function == PROPOSE) {
+        draw_job(r, &drawn);
+        lend_job(c);
         said = twin_propose(job_pack.at, job_pack.count, (uint8_t *)room, sizeof room, answer, ANSWER_WORDS);
-        lend_output(r, c, said % 32 == 0 ? said / 32 : 0, 520, 1);
+        lend_output(r, c, written(said), 520, 1);
     } else {
+        draw_job(r, &drawn);
+        lend_job(c);
         said = twin_read(job_pack.at, job_pack.count, (int64_t *)room, MOST_NUMBERS, answer, ANSWER_WORDS);
-        lend_output(r, c, said % 32 == 0 ? said / 32 : 0, 2092, sizeof(int64_t));
+        lend_output(r, c, written(said), 2092, sizeof(int64_t));
     }
 }
 
@@ -223,15 +246,12 @@ static void shelf_call(struct random *r, struct call *c)
     uint64_t answer[ANSWER_WORDS];
     lend_shelf(r, c);
     if (c->function == KEEP) {
-        draw_job(r, &drawn);
-        draw_proposal(r);
-        lend_job(c);
-        lend(c, proposal_pack.at, proposal_pack.count, 1, false);
+        lend_packs(r, c);
     } else if (c->function == FETCH) {
         draw_asked(r, c);
         lend_job(c);
         uint64_t said = twin_fetch(shelf, SHELF_WORDS, job_pack.at, job_pack.count, room, MOST_CELLS, answer, ANSWER_WORDS);
-        lend_output(r, c, said % 32 == 0 ? said / 32 : 0, MOST_CELLS, sizeof(uint32_t));
+        lend_output(r, c, written(said), MOST_CELLS, sizeof(uint32_t));
     } else if (c->function == FORGET) {
         draw_forgotten(r, c);
     } else {
@@ -268,7 +288,7 @@ static void next_shelf(struct random *r)
 static enum function next_function(struct random *r)
 {
     static const struct { enum function function; int share; } shares[] = {
-        {CHECK, 210}, {PROPOSE, 150}, {KEEP, 240}, {FETCH, 180}, {FORGET, 38}, {CLEAR, 10}, {READ, 74}, {WRITE, 98},
+        {CHECK, 150}, {TERMS, 100}, {PROPOSE, 135}, {KEEP, 215}, {FETCH, 180}, {FORGET, 38}, {CLEAR, 10}, {READ, 74}, {WRITE, 98},
     };
     int64_t share = random_below(r, 1000);
     size_t f = 0;

@@ -6,9 +6,9 @@
   tests/cases/expect.py --random N SEED IN OUT      writes N random proposals and N random checks of grids, and the lines that they must print;
                                                     the program takes at most 10,000 cases
 
-First come the house proposals of `tests/house/expect.py`, then what is worked out by hand: document 01's tables, refusals, and the grids of
-`tests/cases/grids.py`; then limits and random grids, and last the solver's jobs, one for each line of `tests/solver/optima`. Those are kept as they are
-stored: only their lines are computed.
+First come the house proposals of `tests/house/expect.py`, then what is worked out by hand: document 01's tables, largest terms (W-202), refusals, and
+the grids of `tests/cases/grids.py`; then limits and random grids, and last the solver's jobs, one for each line of `tests/solver/optima`. Those are kept
+as they are stored: only their lines are computed.
 """
 import sys
 from pathlib import Path
@@ -37,7 +37,7 @@ def tables():
         (three([0, 7, 0]), [2, 3, 2], [], [0, 0, 28, 0]),
         (three([0, 7, 0]), [2, 3, 3], [], [0, 0, 30, 9]),
         (three([0, 7, 0], tolerance=784), [0, 7, 0], [], [0, 0, 196, 784]),
-        (three([0, 7, 0], tolerance=783), [0, 7, 0], [], [9, 0, 0, 0]),
+        (three([0, 7, 0], tolerance=783), [0, 7, 0], [], [9, 1, 0, 0]),
         (three([0, 5, 0], links=LINK), [2, 2, 1], [2], [0, 0, 15, 0]),
         (three([0, 5, 0], links=LINK), [2, 2, 1], [0], [0, 0, 15, 2]),
         (three([0, 5, 0], links=LINK), [3, 2, 1], [2], [0, 0, 19, 11]),
@@ -53,6 +53,25 @@ def worked():
     made.append((house_case(thin.pack(), house.ROOM), [10, 119]))
     made.append((check_case(two.pack(), proposal_pack([0, 0], [])), [2, 3, 0, 0]))
     made.append((check_case(b'', b''), [1, 0, 0, 0]))
+    return made
+
+# ---- W-202: the largest term, worked out by hand
+
+def held_back():
+    """u 0 5 0, v 3 2 1, and document 01's link twice. There is no difference, so F is 9 + 9 + 1 and the residuals are 6 - y, y - 6 and 2, y both
+    multipliers together. The weight supplies each cell's term; a link's room is its bound and 1. T as large as the gap, one less, and 0."""
+    made = []
+    for bounds, multipliers, terms, place in [
+        ((0, 0), (0, 0), (9, 9, 1, 0, 0), 0),
+        ((0, 0), (3, 0), (3, 3, 1, 3, 0), 0),
+        ((0, 0), (4, 0), (1, 1, 1, 4, 0), 3),
+        ((0, 0), (0, 4), (1, 1, 1, 0, 4), 4),
+        ((0, 0), (2, 2), (1, 1, 1, 2, 2), 3),
+        ((0, 1), (2, 2), (1, 1, 1, 2, 4), 4),
+    ]:
+        links, g = [(LINK[0][0], b) for b in bounds], sum(terms)
+        for tolerance, told in (g, [0, 0, 19, g]), (g - 1, [9, place, 0, 0]), (0, [9, place, 0, 0]):
+            made.append((check_case(three([0, 5, 0], links=links, tolerance=tolerance).pack(), proposal_pack([3, 2, 1], multipliers)), told))
     return made
 
 # ---- refusals of the check, and limits
@@ -102,7 +121,7 @@ def computed(case):
 
 def by_hand():
     """The cases with lines that were worked out by hand."""
-    return [(house_case(pack, house.ROOM), told) for pack, told in house.refused()] + worked() + refused() + grids.by_hand()
+    return [(house_case(pack, house.ROOM), told) for pack, told in house.refused()] + worked() + held_back() + refused() + grids.by_hand()
 
 def solved():
     """The solver's jobs as they are stored."""

@@ -22,7 +22,7 @@ def select_cases():
     return [
         (check_case(select_table(), proposal_pack(GRADUATED, [])), [0, 0, 211, 0]),
         (check_case(select_table(), proposal_pack(CHANGED, [])), [0, 0, 219, 40]),
-        (check_case(select_table(tolerance=39), proposal_pack(CHANGED, [])), [9, 0, 0, 0]),
+        (check_case(select_table(tolerance=39), proposal_pack(CHANGED, [])), [9, 2, 0, 0]),
         (house_case(select_table(), ROOM), [0, 6, *GRADUATED]),
         (check_case(select_table(one_row), proposal_pack(GRADUATED, [])), [4, 0, 0, 0]),
         (check_case(select_table(two_rows), proposal_pack([9, 9, 8, 8, 7, 7], [])), [0, 0, 0, 0]),

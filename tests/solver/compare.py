@@ -1,7 +1,7 @@
 #!/usr/bin/env python3
 """Compares what the check printed for the solver's jobs (the last part of crates/cases/stdout) with the solver's optima, in exact numbers.
 
-Each job's line has to be document 01's verdict, computed here from the stored packs. The least loss of all tables that meet the job lies in the
+Each job's line has to be the documents' verdict, computed here from the stored packs. The least loss of all tables that meet the job lies in the
 interval of tests/solver/optima; if a job is accepted with F and G, it has to lie between F - G and F too. A refused job has to be refused with 9.
 Some wrong losses and gaps, some of them of grids alone, have to be told by the optima in at least one job.
 The last line is 'N passed, M failed': one count a job, and one for each wrong line, loss or gap that has to be noticed.
@@ -40,7 +40,7 @@ def faults(checked):
     if optimum.named != [job.society, job.job, len(job.cells), job.order, len(job.links)]:
         out.append('its optimum is of another job')
     if checked.told != verdict(job, checked.values, checked.multipliers):
-        out.append('its line is not the verdict of document 01')
+        out.append('its line is not the verdict of the documents')
     if checked.told[0] not in (0, 9):
         out.append('it is refused, and not for its gap')
     if checked.accepted() and not between(checked.told[2], checked.told[3], optimum):
@@ -51,15 +51,21 @@ def faults(checked):
         out.append("the solver's figure is far from its interval")
     return out
 
-def wrong_lines(jobs):
-    """Wrong lines for the first accepted job with a gap: None for each that is noticed, else what would pass."""
-    checked = next(x for x in jobs if x.accepted() and x.told[3] > 0)
+def unnoticed(checked, wrong):
+    """Of wrong lines for a job: None for each that is noticed, else what would pass."""
     right, out = checked.told, []
-    for told in ([0, 0, right[2] + 1, right[3]], [0, 0, right[2], right[3] - 1], [0, 1, *right[2:]], [9, 0, 0, 0]):
+    for told in wrong:
         checked.told = told
         out.append(None if faults(checked) else f'the line {told} in place of {right}')
     checked.told = right
     return out
+
+def wrong_lines(jobs):
+    """Wrong lines for the first accepted job with a gap, and for the first refused job, and whether they are noticed."""
+    accepted, refused = next(x for x in jobs if x.accepted() and x.told[3] > 0), next(x for x in jobs if not x.accepted())
+    _, _, f, g = accepted.told
+    wrong = unnoticed(accepted, ([0, 0, f + 1, g], [0, 0, f, g - 1], [0, 1, f, g], [9, 0, 0, 0]))
+    return wrong + unnoticed(refused, ([9, refused.told[1] + 1, 0, 0], [0, 0, 0, 0]))
 
 def wrong_figures(jobs):
     """Wrong losses and gaps, which the optima alone have to tell: None for each that is noticed, else what would pass."""

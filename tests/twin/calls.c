@@ -1,5 +1,5 @@
-/* The eight calls (document 01, "Numbers Mr Aldous reads"; document 02, fetch W-203, counts of slots W-209): the order of the refusals, and what a
- * call returns and writes. */
+/* The nine calls (document 01, "Numbers Mr Aldous reads"; document 02, terms W-202, fetch W-203, counts of slots W-209): the order of the refusals, and
+ * what a call returns and writes. */
 #include "parts.h"
 #include "twin.h"
 
@@ -36,13 +36,18 @@ static struct twin_answer looked_at(size_t shelf_words, const uint32_t *counts)
     return shelf_words != SHELF_WORDS ? twin_plain(13, SHELF_WORDS) : twin_counts(counts);
 }
 
+static struct twin_answer read_both(const uint8_t *job_pack, size_t job_bytes, const uint8_t *proposal, size_t proposal_bytes,
+                                    struct twin_job *job, struct twin_table *table)
+{
+    struct twin_answer a = twin_read_job(job_pack, job_bytes, job);
+    return a.number == 0 ? twin_read_proposal(proposal, proposal_bytes, job, table) : a;
+}
+
 /* The check, with what it read of both packs. */
 static struct twin_answer checked(const uint8_t *job_pack, size_t job_bytes, const uint8_t *proposal, size_t proposal_bytes,
                                   struct twin_job *job, struct twin_table *table)
 {
-    struct twin_answer a = twin_read_job(job_pack, job_bytes, job);
-    if (a.number == 0)
-        a = twin_read_proposal(proposal, proposal_bytes, job, table);
+    struct twin_answer a = read_both(job_pack, job_bytes, proposal, proposal_bytes, job, table);
     if (a.number == 0)
         a = twin_judge(job, table);
     return a;
@@ -56,6 +61,26 @@ uint64_t twin_check(const uint8_t *job, size_t job_bytes, const uint8_t *proposa
     if (answer_words != ANSWER_WORDS)
         return wrong_answer_slice();
     return told(checked(job, job_bytes, proposal, proposal_bytes, &read, &table), answer);
+}
+
+/* A gap above the tolerance is no refusal here: its terms are what the caller asks for. */
+uint64_t twin_terms(const uint8_t *job, size_t job_bytes, const uint8_t *proposal, size_t proposal_bytes,
+                    int64_t *out, size_t out_words, uint64_t *answer, size_t answer_words)
+{
+    struct twin_job read;
+    struct twin_table table;
+    if (answer_words != ANSWER_WORDS)
+        return wrong_answer_slice();
+    struct twin_answer a = read_both(job, job_bytes, proposal, proposal_bytes, &read, &table);
+    if (a.number == 0)
+        a = twin_meets(&read, &table);
+    if (a.number != 0)
+        return told(a, answer);
+    uint64_t needed = (uint64_t)(TERM_WORDS * (read.cells + read.links));
+    if (out_words < needed)
+        return told(twin_plain(13, needed), answer);
+    twin_put_terms(&read, &table, out);
+    return told(twin_plain(0, needed), answer);
 }
 
 uint64_t twin_propose(const uint8_t *job, size_t job_bytes, uint8_t *out, size_t out_bytes, uint64_t *answer, size_t answer_words)

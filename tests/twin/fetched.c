@@ -28,7 +28,8 @@ static void slot_is_kept(void)
 }
 
 /* One byte of the job or one word of the slot is changed. The residuals are 0; with crude rate 6 that of cell 1 is -2 (term 1), with weight 2 that of
- * cell 0 is 4 (term 16/8), with multiplier 0 those of cells 0 and 1 are 2 and -2 (terms 1 and 1). With bound 2 the link's term is 2*2. */
+ * cell 0 is 4 (term 16/8), with multiplier 0 those of cells 0 and 1 are 2 and -2 (terms 1 and 1). With bound 2 the link's term is 2*2,
+ * and its place 3 + 0. */
 static const struct changed {
     const char *what;
     size_t byte, word;
@@ -41,7 +42,7 @@ static const struct changed {
     {"weight 2 in cell 0, tolerance 2", 7, 0, 2, 3, 0, 3, 19, 2},
     {"ceiling 1 in cell 1", 13, 0, 1, 3, 7, 1, 0, 0},
     {"bound -1", 24, 0, 1, 3, 8, 0, 0, 0},
-    {"bound 2", 24, 0, 4, 3, 9, 0, 0, 0},
+    {"bound 2", 24, 0, 4, 3, 9, 3, 0, 0},
     {"society 2", 0, 0, 2, 3, 12, 0, 0, 0},
     {"society 8", 0, 0, 8, 3, 2, 0, 0, 0},
     {"a kept multiplier of 0", 0, 127, 3, 0, 0, 3, 15, 2},

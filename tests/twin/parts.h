@@ -54,10 +54,18 @@ size_t twin_job_words(const struct twin_job *job);
 void twin_put_words(const struct twin_job *job, int64_t *words);
 void twin_put_job(const struct twin_job *job, uint8_t *out);
 
-/* Loss and gap. The rows s of the differences are read by the house proposal too. */
+/* What supplied a term of the gap, and the words that the list of terms has for each place: term, residual, side (document 02, W-202). */
+enum twin_side { BY_BOX = 0, BY_WEIGHT = 1, BY_LINK = 2 };
+enum { TERM_WORDS = 3 };
+
+/* Loss and gap. The rows s of the differences are read by the house proposal too. twin_meets gives refusals 7 and 8, twin_judge 9 as well; twin_put_terms
+ * lists the terms of a table that meets the job. */
 extern const int64_t twin_row[MOST_ORDER + 1][MOST_ORDER + 1];
+int64_t twin_loss(const struct twin_job *job, const struct twin_table *table);
 void twin_residuals(const struct twin_job *job, const struct twin_table *table, int64_t *residual);
+struct twin_answer twin_meets(const struct twin_job *job, const struct twin_table *table);
 struct twin_answer twin_judge(const struct twin_job *job, const struct twin_table *table);
+void twin_put_terms(const struct twin_job *job, const struct twin_table *table, int64_t *out);
 
 /* The house proposal: done with the values, or refusal 20 or 10. twin_house_grid is its part for grids, which need a wider band; both use
  * the entries of K'K, for one column or row of so many cells, and the rounding. */

@@ -35,13 +35,14 @@ static size_t grid_pack(const struct grid *g, int64_t tolerance, uint8_t *pack)
     return bytes;
 }
 
-static void grid_is(const struct grid *g, int64_t tolerance, const uint8_t *values, uint64_t loss, uint64_t gap, const char *what)
+/* The check's answer: F and G, or 9 with the cell of the largest term. */
+static void grid_is(const struct grid *g, int64_t tolerance, const uint8_t *values, uint64_t loss, uint64_t gap, uint64_t largest, const char *what)
 {
     uint8_t pack[64];
     uint64_t answer[4];
     size_t bytes = grid_pack(g, tolerance, pack);
     uint64_t said = twin_check(pack, bytes, values, (size_t)(g->rows * g->columns), answer, 4);
-    expect(said == (gap > (uint64_t)tolerance ? 9 : 0), what);
+    expect(said == (gap > (uint64_t)tolerance ? 32 * largest + 9 : 0), what);
     expect(said != 0 || (answer[2] == loss && answer[3] == gap), what);
 }
 
@@ -52,16 +53,17 @@ static void grid_is(const struct grid *g, int64_t tolerance, const uint8_t *valu
  *        2 6       2 5                           3               -38  12                361  36
  *
  * F = 27 + 2*(25 + 1) + 3*(1 + 0 + 9) = 109. The residual of cell 2 is 2*(4-9) + 2*2*(-5)*(-2) + 0 = 30, and its box term 30*4 is less than
- * 30*30/4. G = 678. Turned over, rows for columns, orders and constants change places, and F and G stay. */
+ * 30*30/4. G = 678. Turned over, rows for columns, orders and constants change places, and F and G stay. The largest term is that of cell 4, and
+ * turned over of cell 2. */
 static void turned_over(void)
 {
     const struct grid upright = {3, 2, 2, 1, 3, 2, {0, 2, 9, 4, 2, 6}, {1, 1, 1, 1, 1, 1}};
     const struct grid turned = {2, 3, 1, 2, 2, 3, {0, 9, 2, 2, 4, 6}, {1, 1, 1, 1, 1, 1}};
     const uint8_t v[] = {1, 2, 4, 4, 2, 5}, w[] = {1, 4, 2, 2, 4, 5};
-    grid_is(&upright, 678, v, 109, 678, "a grid of 3 by 2");
-    grid_is(&upright, 677, v, 109, 678, "a grid of 3 by 2, T one less");
-    grid_is(&turned, 678, w, 109, 678, "a grid of 2 by 3");
-    grid_is(&turned, 677, w, 109, 678, "a grid of 2 by 3, T one less");
+    grid_is(&upright, 678, v, 109, 678, 4, "a grid of 3 by 2");
+    grid_is(&upright, 677, v, 109, 678, 4, "a grid of 3 by 2, T one less");
+    grid_is(&turned, 678, w, 109, 678, 2, "a grid of 2 by 3");
+    grid_is(&turned, 677, w, 109, 678, 2, "a grid of 2 by 3, T one less");
 }
 
 /* Two rows of two columns, orders 1, constant 1 down and 2 across, v 9 7 8 8: differences -1 1 down, -2 0 across. Every residual is 0 for
@@ -73,7 +75,7 @@ static void best_grid(void)
     uint8_t pack[64], out[4];
     uint64_t answer[4];
     size_t bytes = grid_pack(&g, 0, pack);
-    grid_is(&g, 0, v, 62, 0, "the best grid of 2 by 2");
+    grid_is(&g, 0, v, 62, 0, 0, "the best grid of 2 by 2");
     expect(twin_propose(pack, bytes, out, 4, answer, 4) == 32 * 4 && memcmp(out, v, 4) == 0, "the house proposes the best grid");
 }
 

@@ -1,5 +1,5 @@
-/* The twin against document 01 itself: its tables worked by hand, its forms of numbers, and the checking program's lines. Then grids, fetches, and
- * counts of slots. */
+/* The twin against document 01 itself: its tables worked by hand, its forms of numbers, and the checking program's lines. Then grids, fetches,
+ * counts of slots, and terms of the gap. */
 #include "tables.h"
 #include "twin.h"
 
@@ -50,7 +50,7 @@ static const struct worked WORKED[] = {
     {"v 2 3 2", {0, 7, 0}, {1, 1, 1}, 0, 0, {2, 3, 2}, {0, 0, 28, 0}},
     {"v 2 3 3", {0, 7, 0}, {1, 1, 1}, 9, 0, {2, 3, 3}, {0, 0, 30, 9}},
     {"v 0 7 0, T 784", {0, 7, 0}, {1, 1, 1}, 784, 0, {0, 7, 0}, {0, 0, 196, 784}},
-    {"v 0 7 0, T 783", {0, 7, 0}, {1, 1, 1}, 783, 0, {0, 7, 0}, {9, 0, 0, 0}},
+    {"v 0 7 0, T 783", {0, 7, 0}, {1, 1, 1}, 783, 0, {0, 7, 0}, {9, 1, 0, 0}},
     {"link, multiplier 2", {0, 5, 0}, {1, 1, 1}, 0, 1, {2, 2, 1, 2}, {0, 0, 15, 0}},
     {"link, multiplier 0", {0, 5, 0}, {1, 1, 1}, 2, 1, {2, 2, 1, 0}, {0, 0, 15, 2}},
     {"link, v 3 2 1", {0, 5, 0}, {1, 1, 1}, 11, 1, {3, 2, 1, 2}, {0, 0, 19, 11}},
@@ -126,6 +126,7 @@ int main(void)
     select_tables();
     fetched_tables();
     counts_tables();
+    largest_tables();
     printf("%d passed, %d failed\n", passed, failed);
     return failed == 0 ? 0 : 1;
 }

@@ -1,4 +1,4 @@
-/* Tests of the twin by itself: one of them, counted, those of grids, those of a fetch that checks, and those of counts of slots. */
+/* Tests of the twin by itself: one of them, counted, those of grids, those of a fetch that checks, those of counts of slots, and those of terms. */
 #ifndef TWIN_TABLES_H
 #define TWIN_TABLES_H
 
@@ -7,5 +7,6 @@ void expect(int holds, const char *what);
 void select_tables(void);
 void fetched_tables(void);
 void counts_tables(void);
+void largest_tables(void);
 
 #endif

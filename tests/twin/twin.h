@@ -1,4 +1,4 @@
-/* The twin: the bench's eight calls once more in plain C, written from the documents alone, to compare the bench with.
+/* The twin: the bench's nine calls once more in plain C, written from the documents alone, to compare the bench with.
  * Each call takes, answers and writes what include/bench.h says of the bench's call of the same name. */
 #ifndef TWIN_H
 #define TWIN_H
@@ -8,6 +8,8 @@
 
 uint64_t twin_check(const uint8_t *job, size_t job_bytes, const uint8_t *proposal, size_t proposal_bytes,
                     uint64_t *answer, size_t answer_words);
+uint64_t twin_terms(const uint8_t *job, size_t job_bytes, const uint8_t *proposal, size_t proposal_bytes,
+                    int64_t *out, size_t out_words, uint64_t *answer, size_t answer_words);
 uint64_t twin_propose(const uint8_t *job, size_t job_bytes, uint8_t *out, size_t out_bytes,
                       uint64_t *answer, size_t answer_words);
 uint64_t twin_keep(uint32_t *shelf, size_t shelf_words, const uint8_t *job, size_t job_bytes,

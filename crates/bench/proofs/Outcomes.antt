@@ -1,10 +1,11 @@
 -- The same for how reading, writing and proposing end.
-use Prim.Native.Nat.{ℕ}
-use mathlib.Core.Path.{_≡_, refl}
+use Prim.Native.Nat.{ℕ, _+_, _*_, _≤_}
+use mathlib.Core.Path.{_≡_, refl, sym, ap, subst}
 use mathlib.Core.Bool.{Bool, true, false}
 use mathlib.Core.List.{List, []}
 use native.Mathlib.Omega.{arith}
-use lib.Dec.{ltb}
+use borrow.Author.Tests.{eqb-true}
+use lib.Dec.{eqb, ltb}
 use lib.IntN.{ℤ}
 use lib.Ieee.{Float}
 use Rattle.numbers.specs.Choice.{if_then_else_}
@@ -22,10 +23,15 @@ use Rattle.jobs.proofs.Readings.{read-jobs-allowed}
 use Rattle.jobs.proofs.Near.{job-read-near, job-written-near, proposal-written-near}
 use Rattle.factor.specs.declared.Ending.{Ending}
 use Rattle.factor.specs.declared.Ending.the-variants.{Whole, Thin}
+use Rattle.measure.specs.declared.check.Verdict.{Verdict}
+use Rattle.measure.specs.declared.check.Verdict.the-variants.{Accepted, Refused as Refuses}
+use Rattle.measure.specs.Check.{onRead, proposalVerdict, checkOf}
+use Rattle.terms.specs.Listing.{endOf, termsOf}
 use Rattle.house.specs.Proposal.{wordsOf, writtenOf, onEnding, solvedOf, proposedOf, onJobRead, proposeOf}
 use Rattle.house.proofs.Thin.{thin-cell}
+use Rattle.checked.specs.Answers.{answerOf}
 use Rattle.bench.specs.Calls.{outcomeOf}
-use Rattle.bench.proofs.Small.{Small}
+use Rattle.bench.proofs.Small.{Small, check-small}
 
 -- ---- room
 
@@ -90,3 +96,35 @@ propose-small room job = go (readJob job .outcome) refl (job-read-near job)
     go : (o : Outcome) → readJob job .outcome ≡ o → Near 20920 o → Small (outcomeOf (onJobRead room (readJob job .words) o .outcome))
     go (Done k) e h = proposed-small room (jobOf (readJob job .words)) (read-jobs-allowed job k e)
     go (Refused number place) e h = record { number = omega (arith, h .1); place = h .2 }
+
+-- ---- the terms handed out
+
+end-small : (count : ℕ) → count ≤ 840 → (v : Verdict) → Small (answerOf v) → Small (outcomeOf (endOf count v))
+end-small count few (Accepted F G) s = record { number = omega arith; place = omega arith }
+end-small count few (Refuses number place) s = go (eqb number 9)
+  where
+    go : (b : Bool) → Small (outcomeOf (if b then Done count else Refused number place))
+    go true = record { number = omega arith; place = omega arith }
+    go false = record { number = s .number; place = s .place }
+
+-- a refusal of the job pack's is none of a gap, so no count is told
+unread-small : (count number place : ℕ) → number ≤ 5 → place ≤ 20920 → Small (outcomeOf (endOf count (Refuses number place)))
+unread-small count number place h k = go (eqb number 9) refl
+  where
+    go : (b : Bool) → eqb number 9 ≡ b → Small (outcomeOf (if b then Done count else Refused number place))
+    go true e = absurd (omega (arith, h, eqb-true number 9 e))
+    go false e = record { number = omega arith; place = k }
+
+pub terms-small : (room : ℕ) (job proposal : List ℕ) → Small (outcomeOf (termsOf room job proposal .outcome))
+terms-small room job proposal = handed-small room _ (endOf count (checkOf job proposal)) (go (readJob job .outcome) refl (job-read-near job))
+  where
+    j : Job
+    j = jobOf (readJob job .words)
+
+    count : ℕ
+    count = 3 * (j .cells + j .links)
+
+    go : (o : Outcome) → readJob job .outcome ≡ o → Near 20920 o → Small (outcomeOf (endOf count (checkOf job proposal)))
+    go (Done k) e h = let A = read-jobs-allowed job k e in end-small count (omega (arith, A .cells-few, A .links-few)) (checkOf job proposal) (check-small job proposal)
+    go (Refused number place) e h =
+        subst (λ (v : Verdict). Small (outcomeOf (endOf count v))) (sym (ap (λ (o : Outcome). onRead o (proposalVerdict j proposal)) e)) (unread-small count number place (h .1) (h .2))

@@ -1,4 +1,4 @@
--- The eight calls over C: each call's answer, what it leaves in the slice that it writes to, and its claim, which its contract cites.
+-- The nine calls over C: each call's answer, what it leaves in the slice that it writes to, and its claim, which its contract cites.
 use Prim.Native.Nat.{ℕ}
 use mathlib.Core.List.{List, []}
 use lib.IntN.{ℤ}
@@ -9,6 +9,7 @@ use Rattle.packs.specs.declared.Outcome.the-variants.{Done, Refused}
 use Rattle.packs.specs.Writing.{Written, roomed}
 use Rattle.jobs.specs.Packs.{readJobInto, writeJob}
 use Rattle.measure.specs.Check.{checkOf}
+use Rattle.terms.specs.Listing.{termsOf}
 use Rattle.house.specs.Proposal.{proposeOf}
 use Rattle.checked.specs.declared.Answer.{Answer}
 use Rattle.checked.specs.Answers.{refusal, overwritten, answerOf}
@@ -32,6 +33,11 @@ WriterSays written out answer = Says (outcomeOf (written .outcome)) answer out (
 
 abbrev pub ProposeSays : (job out answer : List ℕ) → (returned : ℕ) (answered left : List ℕ) → Type 0
 ProposeSays job out answer = WriterSays (proposeOf (length out) job) out answer
+
+-- Words handed out, in front of the words that were lent: three a place, "done: place the words written; F and G 0".
+abbrev pub TermsSays : (job proposal : List ℕ) (out : List ℤ) (answer : List ℕ) → (returned : ℕ) (answered : List ℕ) (left : List ℤ) → Type 0
+TermsSays job proposal out answer =
+    Says (outcomeOf (termsOf (length out) job proposal .outcome)) answer out (sets out 0 (termsOf (length out) job proposal .words))
 
 -- ---- a job's words read, and written
 

@@ -1,5 +1,5 @@
-// A proposal checked, and the house's own made.
-ghost use Rattle.bench.specs.Calls.{CheckSays, ProposeSays};
+// A proposal checked, its terms handed out, and the house's own made.
+ghost use Rattle.bench.specs.Calls.{CheckSays, TermsSays, ProposeSays};
 use crate::answers::ANSWER_WORDS;
 use crate::answers::NO_ANSWER;
 use crate::answers::give;
@@ -16,6 +16,23 @@ pub extern "C" fn bench_check(job: &[u8], proposal: &[u8], answer: &mut [u64]) -
     }
     let verdict = measure::check::check(job, proposal);
     give(answer, of_verdict(verdict))
+}
+
+// Hand out the terms of the gap of a proposal pack against a job pack, three words a place: term, residual and side.
+#[no_mangle]
+pub extern "C" fn bench_terms(
+    job: &[u8],
+    proposal: &[u8],
+    out: &mut [i64],
+    answer: &mut [u64],
+) -> u64
+    ensures { λ r. ⌜ TermsSays (now (job .entry)) (now (proposal .entry)) (now (out .entry)) (now (answer .entry)) r (now (answer .exit)) (now (out .exit)) ⌝ }
+{
+    if answer.len() != ANSWER_WORDS {
+        return NO_ANSWER;
+    }
+    let outcome = terms::list_terms(job, proposal, out);
+    give(answer, of_outcome(outcome))
 }
 
 // Write the house proposal for a job pack to the output.

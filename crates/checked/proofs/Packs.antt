@@ -8,15 +8,16 @@ use lib.IntN.{ℤ, pos, natAbs}
 use lib.ListN.{length, replicate}
 use lib.Seq.{sets}
 use Rattle.numbers.specs.Choice.{if_then_else_}
-use Rattle.packs.specs.declared.Outcome.{Outcome}
 use Rattle.fields.specs.Table.{gridField}
+use Rattle.packs.specs.declared.Outcome.{Outcome}
 use Rattle.jobs.specs.Words.{countAt, cellsOf, headWords, linksOf, jobOf}
 use Rattle.jobs.specs.Allowed.{Counts}
 use Rattle.jobs.specs.Packs.{readJob, readProposal}
 use Rattle.jobs.proofs.Counts.{order-counts}
 use Rattle.jobs.proofs.Readings.{read-words-few}
 use Rattle.measure.specs.declared.check.Verdict.the-variants.{Accepted}
-use Rattle.measure.specs.Check.{ifRead, proposalWords, checkOf}
+use Rattle.measure.specs.Check.{checkOf}
+use Rattle.measure.specs.Opening.{ifRead, proposalWords}
 use Rattle.checked.specs.Checked.{takenFrom, valuesOf, multipliersOf}
 use Rattle.checked.specs.Answers.{accepted}
 use Rattle.checked.specs.Given.{Rates, Wordlike, Given}

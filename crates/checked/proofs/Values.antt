@@ -5,13 +5,14 @@ use Prim.Native.Nat.{ℕ, zero, suc, _+_, _≤_}
 use native.Mathlib.Omega.{arith}
 use lib.IntN.{ℤ, pos, natAbs}
 use lib.ListN.{length, take, drop, getD, replicate, length-replicate, length-drop}
-use lib.Seq.{sets, sets-eq, length-sets, getD-drop, take-append-le, drop-append-le}
+use lib.Seq.{sets, sets-eq, getD-drop, take-append-le, drop-append-le}
 use lib.Dec.{lit<}
 use mir.Syntax.{w64}
 use mir.Val.{toZ, ofZ}
 use Rattle.whole.proofs.Fits.{small-fits, gives}
 use Rattle.jobs.specs.Words.{wordAt}
 use Rattle.jobs.proofs.Places.{zeros-at}
+use Rattle.measure.proofs.Packed.{lent-length}
 use Rattle.checked.specs.Checked.{takenFrom}
 
 -- ---- sizes
@@ -47,9 +48,6 @@ past-end (x ∷ xs) zs h zero = refl
 past-end (x ∷ xs) zs h (suc i) = past-end xs zs h i
 
 -- ---- a list stored over m zeros
-pub lent-length : (m : ℕ) (ws l : List ℤ) → l ≡ sets (replicate m (pos 0)) 0 ws → m ≡ length l
-lent-length m ws l e = sym (ap length e ∙ length-sets (replicate m (pos 0)) 0 ws ∙ length-replicate m (pos 0))
-
 module _ (m : ℕ) (ws : List ℤ) (room : length ws ≤ m) (scratch : List ℤ) (stored : scratch ≡ sets (replicate m (pos 0)) 0 ws) where
   long : length (replicate m (pos 0)) ≡ m
   long = length-replicate m (pos 0)

@@ -1,6 +1,6 @@
 -- Accepted exactly, and what each refusal means: both packs read or one is refused with a number up to 6, and on two packs that read the
 -- verdict is that on the table.
-use Prim.Native.Nat.{ℕ, _≤_}
+use Prim.Native.Nat.{ℕ, _+_, _≤_, _<_}
 use mathlib.Core.Path.{_≡_, refl, sym, ap, ap₂, subst, _∙_}
 use mathlib.Core.Bool.{Bool, true, false}
 use mathlib.Core.List.{List}
@@ -15,10 +15,14 @@ use Rattle.packs.specs.declared.Outcome.{Outcome}
 use Rattle.packs.specs.declared.Outcome.the-variants.{Done, Refused as Refuses}
 use Rattle.packs.specs.Reading.{readFrom}
 use Rattle.jobs.specs.Packs.{readJob, asSix}
+use Rattle.jobs.proofs.Readings.{read-jobs-allowed}
+use Rattle.tally.specs.Largest.{Largest}
+use Rattle.tally.proofs.Largest.{largest-some, largest-one}
 use Rattle.measure.specs.declared.check.Verdict.{Verdict}
 use Rattle.measure.specs.declared.check.Verdict.the-variants.{Accepted, Refused}
+use Rattle.measure.specs.Largest.{largestPlace}
 use Rattle.measure.specs.Check.{verdictOf, onRead, proposalVerdict, checkOf}
-use Rattle.claims.specs.Read.{jobIn, proposalIn, valuesIn, multipliersIn, lossIn, gapIn, Reads, BothRead}
+use Rattle.claims.specs.Read.{jobIn, proposalIn, valuesIn, multipliersIn, lossIn, gapIn, termIn, Reads, BothRead}
 use Rattle.claims.specs.Meets.{EveryInBox, EveryLinkHolds}
 use Rattle.claims.specs.Verdicts.{Acceptable, Outside, Broken, Above}
 use Rattle.claims.specs.Promises.{AcceptedExactly, JobRefusedExactly, ProposalRefusedExactly, OutsideExactly, BrokenExactly, AboveExactly, NoOtherRefusal}
@@ -55,9 +59,15 @@ module _ (job proposal : List ℕ) where
   is-broken : {place : ℕ} → Broken job proposal place → checkOf job proposal ≡ Refused 8 place
   is-broken {place} o = on-both (o .both-read) ∙ verdict-broken (jobIn job) _ _ (o .values-in-boxes) place (o .lowest-link)
 
+  -- the place of the largest term, of a job with cells, and no other place is one
+  largest-in : 0 < jobIn job .cells + jobIn job .links
+      → Largest (termIn job proposal) (jobIn job .cells + jobIn job .links) (largestPlace (jobIn job) (valuesIn job proposal) (multipliersIn job proposal))
+  largest-in h = largest-some (termIn job proposal) (jobIn job .cells + jobIn job .links) h
+
   is-above : {place : ℕ} → Above job proposal place → checkOf job proposal ≡ Refused 9 place
   is-above o =
-      on-both (o .both-read) ∙ verdict-above (jobIn job) _ _ (o .values-in-boxes) (o .links-hold) (o .gap-above) ∙ ap (Refused 9) (sym (o .place-is))
+      on-both (o .both-read) ∙ verdict-above (jobIn job) _ _ (o .values-in-boxes) (o .links-hold) (o .gap-above)
+      ∙ ap (Refused 9) (largest-one (largest-in (omega (arith, o .largest-term .among))) (o .largest-term))
 
   is-accepted : {F G : ℤ} → Acceptable job proposal F G → checkOf job proposal ≡ Accepted F G
   is-accepted o =
@@ -95,7 +105,13 @@ module _ (job proposal : List ℕ) where
       go (broken I place L) =
           let o : Broken job proposal place = record { both-read = B; values-in-boxes = I; lowest-link = L } in says-so (is-broken o) o
       go (above I H h) =
-          let o : Above job proposal 0 = record { both-read = B; values-in-boxes = I; links-hold = H; gap-above = h; place-is = refl } in
+          let o : Above job proposal (largestPlace (jobIn job) (valuesIn job proposal) (multipliersIn job proposal)) = record {
+            both-read = B;
+            values-in-boxes = I;
+            links-hold = H;
+            gap-above = h;
+            largest-term = largest-in (omega (arith, read-jobs-allowed job (B .job-reads .0) (B .job-reads .1) .cells-some));
+          } in
           says-so (is-above o) o
       go (accepted I H h) = let o = acceptable B I H h in says-so (is-accepted o) o
 

@@ -1,4 +1,4 @@
--- The promises of the eight calls over C, each a law whose type is its statement in specs/BenchPromises.antt: one general law about `Says`, and an
+-- The promises of the nine calls over C, each a law whose type is its statement in specs/BenchPromises.antt: one general law about `Says`, and an
 -- instance a call.
 use Prim.Native.Nat.{ℕ, _/_, _%_}
 use mathlib.Core.Path.{_≡_, refl, sym, ap, subst, _∙_}
@@ -10,20 +10,26 @@ use lib.ListN.{length, drop}
 use Rattle.packs.specs.Writing.{roomed}
 use Rattle.jobs.specs.Packs.{readJobInto, writeJob}
 use Rattle.measure.specs.Check.{checkOf}
-use Rattle.checked.specs.declared.Answer.{Answer}
-use Rattle.shelf.specs.Calls.{own, keep, fetch, forget, clear, after, said}
+use Rattle.terms.specs.Listing.{termsOf}
 use Rattle.house.specs.Proposal.{proposeOf}
-use Rattle.bench.specs.Answers.{codeOf, answerWords, hasFour, Says}
+use Rattle.checked.specs.declared.Answer.{Answer}
+use Rattle.checked.specs.Answers.{answerOf}
+use Rattle.checked.specs.Checked.{checkedOf}
+use Rattle.counts.proofs.Tests.{ready-passed}
+use Rattle.shelf.specs.Shelf.{keepReply}
+use Rattle.shelf.specs.Calls.{own, keep, fetch, forget, clear, after, said}
+use Rattle.bench.specs.Answers.{codeOf, answerWords, hasFour, returnedFor, writtenFor, Says}
 use Rattle.bench.proofs.Small.{Small, check-small}
-use Rattle.bench.proofs.Outcomes.{propose-small, read-small, write-small}
+use Rattle.bench.proofs.Outcomes.{propose-small, read-small, terms-small, write-small}
 use Rattle.bench.proofs.Shelves.{said-small}
 use Rattle.claims.specs.Seen.{clears, withoutOthers, ownSeen}
-use Rattle.claims.specs.BenchPromises.{Among, Untouched, Determined, Numbered, RefusalsKept, RestsKept, AcceptedTold, EightListsSeen, NoNeighbourSeen, OwnCallsSeen}
+use Rattle.claims.specs.BenchPromises.{Among, Untouched, Determined, Numbered, RefusalsKept, RestsKept, AcceptedTold, KeptAsChecked, TermsHanded, EightListsSeen, NoNeighbourSeen, OwnCallsSeen}
 use Rattle.claims.proofs.Told.{told-of, kept-told}
 use Rattle.claims.proofs.FetchTold.{fetch-told}
 use Rattle.claims.proofs.Unwritten.{Kept, verdict-kept, write-kept, read-kept, propose-kept, shelf-kept, fetch-kept}
 use Rattle.claims.proofs.CallNumbers.{check-number, propose-number, read-number, write-number, keep-number, fetch-number, forget-number, clear-number}
 use Rattle.claims.proofs.Seen.{run-seen, lists-seen, alone-seen, decided-seen}
+use Rattle.claims.proofs.HandedTerms.{terms-number, terms-kept, terms-within, terms-told}
 use Rattle.claims.proofs.Beyond.{beyond-made, beyond-values, write-within, read-within, propose-within, fetch-within}
 
 -- ---- determined
@@ -35,6 +41,7 @@ one f g = (f .returns ∙ sym (g .returns), f .answers ∙ sym (g .answers), f .
 pub determined : Determined
 determined = record {
   check = λ job proposal answer r s a b x y f g. let e = one (f .0) (g .0) in (e .0, e .1, f .1 ∙ sym (g .1));
+  terms = λ job proposal out answer r s a b x y f g. one f g;
   propose = λ job out answer r s a b x y f g. one f g;
   read = λ job words answer r s a b x y f g. one f g;
   write = λ words out answer r s a b x y f g. one f g;
@@ -105,6 +112,8 @@ module _ {A : Type 0} {a : Answer} (s : Small a) {answer : List ℕ} {before aft
 pub numbered : Numbered
 numbered = record {
   check = λ job proposal answer r a says. numbered-by (check-small job proposal) says (13 ∷ []) 9 (inl refl) (check-number job proposal);
+  terms = λ job proposal out answer r a x says.
+      numbered-by (terms-small (length out) job proposal) says (13 ∷ []) 8 (inl refl) (terms-number (length out) job proposal);
   propose = λ job out answer r a x says.
       numbered-by (propose-small (length out) job) says (10 ∷ 13 ∷ 20 ∷ []) 5 (inr (inl refl)) (propose-number (length out) job);
   read = λ job words answer r a x says. numbered-by (read-small (length words) job) says (13 ∷ []) 5 (inl refl) (read-number (length words) job);
@@ -123,6 +132,7 @@ refusals-kept = record {
   check = λ job proposal answer r a x says n.
       let u = kept-by (check-small job proposal) (says .0) (verdict-kept (checkOf job proposal) []) n in
       record { lent = says .1; told = u .told };
+  terms = λ job proposal out answer r a x says n. kept-by (terms-small (length out) job proposal) says (terms-kept (length out) job proposal out) n;
   propose = λ job out answer r a x says n. kept-by (propose-small (length out) job) says (propose-kept (length out) job out) n;
   read = λ job words answer r a x says n. kept-by (read-small (length words) job) says (read-kept (length words) job words) n;
   write = λ words out answer r a x says n. kept-by (write-small (length out) words) says (write-kept (length out) (writeJob words) out) n;
@@ -133,6 +143,9 @@ refusals-kept = record {
 
 pub rests-kept : RestsKept
 rests-kept = record {
+  terms = λ job proposal out answer r a x says z.
+      let made = termsOf (length out) job proposal in
+      rest-by (terms-small (length out) job proposal) says (λ m e. beyond-made (made .words) out m (omega (arith, e, terms-within (length out) job proposal))) z;
   propose = λ job out answer r a x says z.
       let made = proposeOf (length out) job in
       rest-by (propose-small (length out) job) says (λ m e. beyond-made (made .bytes) out m (omega (arith, e, propose-within (length out) job))) z;
@@ -160,6 +173,17 @@ accepted-told = record {
       let t = told-by (said-small shelf (own (fetch job (length out)))) says z in
       fetch-told shelf job out a x (t .0) (t .1) (t .2);
 }
+
+pub kept-as-checked : KeptAsChecked
+unfolding keepReply checkedOf
+kept-as-checked job proposal shelf answer R r s a b x says kept =
+    let e : said shelf (own (keep job proposal)) .answer ≡ answerOf (checkOf job proposal) = rw (ready-passed shelf R) in
+    (says .returns ∙ ap (returnedFor answer) (sym e) ∙ sym (kept .returns), says .answers ∙ ap (writtenFor answer) (sym e) ∙ sym (kept .answers))
+
+pub terms-handed : TermsHanded
+terms-handed job proposal out answer r a x says z =
+    let t = told-by (terms-small (length out) job proposal) says z in
+    terms-told job proposal out x (t .0) (t .2)
 
 -- ---- sequences
 

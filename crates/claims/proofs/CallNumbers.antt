@@ -20,15 +20,18 @@ use Rattle.jobs.specs.Allowed.{Allowed}
 use Rattle.jobs.specs.Packs.{handedOut, readJob, readJobInto, writeJob, writeProposal}
 use Rattle.jobs.proofs.Near.{job-read-near, job-written-near}
 use Rattle.jobs.proofs.Readings.{read-jobs-allowed}
+use Rattle.factor.specs.declared.Ending.{Ending}
+use Rattle.factor.specs.declared.Ending.the-variants.{Whole, Thin}
 use Rattle.measure.specs.declared.check.Verdict.{Verdict}
 use Rattle.measure.specs.declared.check.Verdict.the-variants.{Accepted, Refused}
 use Rattle.measure.specs.Loss.{lossOf}
 use Rattle.measure.specs.Gap.{gapOf}
+use Rattle.measure.specs.Largest.{largestPlace}
 use Rattle.measure.specs.Check.{lowestFailing, inBox, holds as kept, verdictOf, valuesOf, multipliersOf, checkOf, verdictFor}
-use Rattle.factor.specs.declared.Ending.{Ending}
-use Rattle.factor.specs.declared.Ending.the-variants.{Whole, Thin}
 use Rattle.house.specs.Proposal.{wordsOf, onEnding, solvedOf, proposedOf, onJobRead, proposeOf}
 use Rattle.house.proofs.Writable.{house-writes}
+use Rattle.checked.specs.Answers.{Reply, refusal, done, answerOf}
+use Rattle.checked.specs.Checked.{checkedOf}
 use Rattle.slots.specs.declared.Slot.{Slot}
 use Rattle.slots.specs.declared.Slot.the-variants.{At, Nowhere}
 use Rattle.slots.specs.Slots.{headSize, valuesEnd, lowest, hasJob, atSlot}
@@ -36,10 +39,8 @@ use Rattle.counts.specs.declared.Tested.{Tested}
 use Rattle.counts.specs.declared.Tested.the-variants.{Passed, Refused as Barred}
 use Rattle.counts.specs.Counts.{societies, shelfWords, testShelf, onTested, rowIn}
 use Rattle.counts.proofs.Tests.{refused-either}
-use Rattle.checked.specs.Answers.{Reply, refusal, done, answerOf}
 use Rattle.shelf.specs.Shelf.{forgetReply, Layout, layoutIn, spanOf, fromSociety, keepReply, fetchFrom, fetchReply, forgotReply}
 use Rattle.shelf.specs.Fetched.{mostValue, mostMultiplier, lowestAbove, orSix, proposalOf, keptVerdict, handed as handedTo, sameCounts, fetchTable, keptCells, keptLinks, keptValues, keptMultipliers, fetchAt, fetchIn, onJob}
-use Rattle.checked.specs.Checked.{checkedOf}
 use Rattle.shelf.specs.Calls.{keep, fetch, forget, own, clear, laidSaid, said}
 use Rattle.bench.specs.Calls.{outcomeOf}
 use Rattle.claims.specs.BenchPromises.{Among}
@@ -140,7 +141,7 @@ unfolding verdictOf
 verdict-number j v y = go (ltb (lowestFailing (inBox j v) (j .cells)) (j .cells)) (ltb (lowestFailing (kept j v) (j .links)) (j .links)) (leZ (gapOf j v y) (j .tolerance))
   where
     go : (a b c : Bool)
-        → Nine (if a then Refused 7 (lowestFailing (inBox j v) (j .cells)) else (if b then Refused 8 (lowestFailing (kept j v) (j .links)) else (if c then Accepted (lossOf j v) (gapOf j v y) else Refused 9 0)))
+        → Nine (if a then Refused 7 (lowestFailing (inBox j v) (j .cells)) else (if b then Refused 8 (lowestFailing (kept j v) (j .links)) else (if c then Accepted (lossOf j v) (gapOf j v y) else Refused 9 (largestPlace j v y))))
     go true b c = omega arith
     go false true c = omega arith
     go false false true = omega arith

@@ -4,6 +4,7 @@ pub mod Lowest
 pub mod Numbers
 pub mod Verdict
 pub mod Accepted
+pub mod Sides
 pub mod Terms
 pub mod Best
 pub mod Told
@@ -30,4 +31,5 @@ pub mod Beyond
 pub mod CallNumbers
 pub mod FetchTold
 pub mod Seen
+pub mod HandedTerms
 pub mod BenchPromises

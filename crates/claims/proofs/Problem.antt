@@ -7,7 +7,6 @@ use native.Mathlib.Omega.{arith}
 use lib.Dec.{ltb}
 use lib.IntN.{ℤ, pos, _+ℤ_, _-ℤ_, _*ℤ_, zero-*ℤ, *ℤ-zero}
 use lib.Signed.{_≤ℤ_}
-use Rattle.numbers.specs.Choice.{if_then_else_}
 use Rattle.whole.specs.Sum.{sum}
 use Rattle.whole.proofs.Order.{pos-nonneg}
 use Rattle.whole.proofs.Ring.{*ℤ-assoc, *ℤ-+ℤ}
@@ -19,11 +18,13 @@ use Rattle.certificate.specs.Terms.{cellTerm, terms, NotNegative}
 use Rattle.certificate.specs.Differences.{Inside, difference, coefficient, returned}
 use Rattle.certificate.proofs.Differences.{difference-is-form, smooth-loss}
 use Rattle.certificate.proofs.Families.{either, sum-forms}
+use Rattle.numbers.specs.Choice.{if_then_else_}
 use Rattle.jobs.specs.Job.{Job}
 use Rattle.jobs.specs.Allowed.{Allowed}
 use Rattle.jobs.proofs.Places.{upto-nonneg}
+use Rattle.tally.specs.Supplied.{limit}
 use Rattle.measure.specs.Loss.{familyOf, familyAcross, acrossAt, fitOf, roughOf, lossOf}
-use Rattle.measure.specs.Gap.{linkSum, linkCoefficient, smoothPart, residualOf, limit, gapOf}
+use Rattle.measure.specs.Gap.{linkSum, linkCoefficient, smoothPart, residualOf, gapOf}
 use Rattle.claims.specs.Meets.{Meets, scaledLossOf}
 
 -- Document 01's constant for a difference down; for one across the second constant, and 0 where the difference would run over its row's end. So both families

@@ -1,5 +1,5 @@
 -- The promises, each a law whose type is its statement in specs/Promises.antt.
-use Rattle.claims.specs.Promises.{AcceptedExactly, JobRefusedExactly, ProposalRefusedExactly, OutsideExactly, BrokenExactly, AboveExactly, NoOtherRefusal, NoTermNegative, LossAtMost, LineLoss, Best, AcceptedMeets, WorkedTables, WorkedGrid}
+use Rattle.claims.specs.Promises.{AcceptedExactly, JobRefusedExactly, ProposalRefusedExactly, OutsideExactly, BrokenExactly, AboveExactly, NoOtherRefusal, EachSideSaid, NoTermNegative, TermAtMost, LossAtMost, LineLoss, Best, AcceptedMeets, WorkedTables, WorkedGrid}
 use Rattle.claims.proofs.Accepted as Accepted
 use Rattle.claims.proofs.Terms as Terms
 use Rattle.claims.proofs.Best as Best
@@ -28,8 +28,14 @@ above-exactly = Accepted.above-exactly
 pub no-other-refusal : NoOtherRefusal
 no-other-refusal = Accepted.no-other-refusal
 
+pub each-side-said : EachSideSaid
+each-side-said = Terms.each-side-said
+
 pub no-term-negative : NoTermNegative
 no-term-negative = Terms.no-term-negative
+
+pub term-at-most : TermAtMost
+term-at-most = Terms.term-at-most
 
 pub loss-at-most : LossAtMost
 loss-at-most = Told.loss-most

@@ -8,24 +8,23 @@ use lib.Dec.{leb}
 use lib.IntN.{ℤ, pos, negsuc, natAbs, _-ℤ_}
 use lib.ListN.{length}
 use lib.Signed.{_≤ℤ_}
-use Rattle.whole.proofs.Order.{+ℤ-nonneg, *ℤ-nonneg, sq-nonneg, pos-mono}
+use Rattle.whole.proofs.Order.{+ℤ-nonneg, *ℤ-nonneg, sq-nonneg}
 use Rattle.whole.proofs.Sums.{sum-nonneg}
 use Rattle.certificate.specs.Differences.{difference}
 use Rattle.jobs.specs.Job.{Job}
 use Rattle.jobs.specs.Allowed.{Allowed}
-use Rattle.jobs.proofs.Readings.{read-jobs-allowed, read-jobs-laid, read-proposals-proposed}
 use Rattle.jobs.proofs.Places.{upto-nonneg}
 use Rattle.measure.specs.declared.check.Verdict.{Verdict}
 use Rattle.measure.specs.declared.check.Verdict.the-variants.{Accepted, Refused}
 use Rattle.measure.specs.Loss.{familyOf, familyAcross, acrossAt, lossOf}
 use Rattle.measure.specs.Check.{checkOf}
 use Rattle.measure.proofs.Directions.{loss-at-most}
+use Rattle.checked.specs.Answers.{Reply, refusal, accepted, answerOf}
+use Rattle.checked.specs.Checked.{checkedOf}
 use Rattle.counts.specs.declared.Tested.{Tested}
 use Rattle.counts.specs.declared.Tested.the-variants.{Passed, Refused as Barred}
 use Rattle.counts.specs.Counts.{testShelf, onTested, rowIn}
 use Rattle.counts.proofs.Tests.{refused-some}
-use Rattle.checked.specs.Answers.{Reply, refusal, accepted, answerOf}
-use Rattle.checked.specs.Checked.{checkedOf}
 use Rattle.shelf.specs.Fetched.{handed}
 use Rattle.shelf.specs.Shelf.{layoutIn, keepReply}
 use Rattle.shelf.specs.Calls.{own, keep, laidSaid, said}
@@ -36,7 +35,7 @@ use Rattle.claims.specs.Verdicts.{Acceptable}
 use Rattle.claims.specs.Promises.{LossAtMost}
 use Rattle.claims.specs.BenchPromises.{ToldBest}
 use Rattle.claims.proofs.Accepted.{accepted-exactly, no-other-refusal}
-use Rattle.claims.proofs.Terms.{no-term-negative}
+use Rattle.claims.proofs.Terms.{at-most, words-given, no-term-negative}
 use Rattle.claims.proofs.Best.{best}
 
 natural : (z : ℤ) → pos 0 ≤ℤ z → z ≡ pos (natAbs z)
@@ -53,14 +52,8 @@ loss-not-negative j A v =
 
 pub loss-most : LossAtMost
 loss-most job proposal B =
-    let A = read-jobs-allowed job (B .job-reads .0) (B .job-reads .1) in
-    let low = loss-not-negative (jobIn job) A (valuesIn job proposal) in
-    let most : natAbs (lossIn job proposal) ≤ 7600000000000000000 = loss-at-most (record {
-      allowed = A;
-      laid = read-jobs-laid job (B .job-reads .0) (B .job-reads .1);
-      proposed = read-proposals-proposed (jobIn job .cells) (jobIn job .links) proposal (B .proposal-reads .0) (B .proposal-reads .1);
-    }) in
-    (low, subst (λ (z : ℤ). z ≤ℤ pos 7600000000000000000) (sym (natural (lossIn job proposal) low)) (pos-mono most))
+    let G = words-given job proposal B in
+    at-most 7600000000000000000 (lossIn job proposal) (loss-not-negative (jobIn job) (G .allowed) (valuesIn job proposal)) (loss-at-most G)
 
 -- ---- an accepted check
 pub record Verdicted (job proposal : List ℕ) (v : Verdict) : Type 0 where

@@ -9,13 +9,14 @@ use lib.Dec.{T, ltb}
 use lib.IntN.{ℤ}
 use lib.Signed.{_≤ℤ_, _<ℤ_, leZ, leZ-yes, clashℤ}
 use mir.Facts.{and-yes, yes-and}
-use Rattle.numbers.specs.Choice.{if_then_else_}
 use Rattle.whole.proofs.Order.{≤ℤ-or->}
+use Rattle.numbers.specs.Choice.{if_then_else_}
 use Rattle.jobs.specs.Job.{Job}
 use Rattle.measure.specs.declared.check.Verdict.{Verdict}
 use Rattle.measure.specs.declared.check.Verdict.the-variants.{Accepted, Refused}
 use Rattle.measure.specs.Loss.{lossOf}
 use Rattle.measure.specs.Gap.{gapOf}
+use Rattle.measure.specs.Largest.{largestPlace}
 use Rattle.measure.specs.Check.{lowestFailing, inBox, holds, verdictOf}
 use Rattle.claims.specs.Meets.{InBox, LinkHolds, EveryInBox, EveryLinkHolds}
 use Rattle.claims.specs.Verdicts.{LowestNot}
@@ -48,7 +49,7 @@ module _ (j : Job) (v y : ℕ → ℤ) where
   by cell link within =
       if ltb cell (j .cells) then Refused 7 cell else
       if ltb link (j .links) then Refused 8 link else
-      if within then Accepted (lossOf j v) (gapOf j v y) else Refused 9 0
+      if within then Accepted (lossOf j v) (gapOf j v y) else Refused 9 (largestPlace j v y)
 
   verdict-by : {cell link : ℕ} {within : Bool} → lowestFailing (inBox j v) (j .cells) ≡ cell → lowestFailing (holds j v) (j .links) ≡ link
       → leZ (gapOf j v y) (j .tolerance) ≡ within → verdictOf j v y ≡ by cell link within
@@ -73,7 +74,7 @@ module _ (j : Job) (v y : ℕ → ℤ) where
       links-pass : lowestFailing (holds j v) (j .links) ≡ j .links
       links-pass = ends-after (links j v) (j .links) H
 
-      pub verdict-above : j .tolerance <ℤ gapOf j v y → verdictOf j v y ≡ Refused 9 0
+      pub verdict-above : j .tolerance <ℤ gapOf j v y → verdictOf j v y ≡ Refused 9 (largestPlace j v y)
       verdict-above h =
           verdict-by boxes-pass links-pass (denied (leZ (gapOf j v y) (j .tolerance)) (λ t. clashℤ h (leZ-yes t)))
           ∙ rw (past (j .cells), past (j .links))

@@ -1,22 +1,27 @@
--- What is promised of the eight calls over C, whatever they are lent: short statements about the claims that their contracts cite. The proof of each
+-- What is promised of the nine calls over C, whatever they are lent: short statements about the claims that their contracts cite. The proof of each
 -- stands in proofs/BenchPromises.antt.
-use Prim.Native.Nat.{ℕ, _/_, _%_, _≤_, _<_}
+use Prim.Native.Nat.{ℕ, _+_, _*_, _/_, _%_, _≤_, _<_}
 use mathlib.Core.Path.{_≡_}
 use mathlib.Core.Logic.{_⊎_}
 use mathlib.Core.Bool.{true}
 use mathlib.Core.List.{List, [], _∷_}
 use lib.IntN.{ℤ, pos}
 use lib.ListN.{length, drop, getD}
+use Rattle.whole.specs.Sum.{sum}
 use Rattle.numbers.specs.Choice.{if_then_else_}
-use Rattle.measure.specs.declared.check.Verdict.the-variants.{Accepted}
+use Rattle.jobs.specs.Words.{wordAt}
+use Rattle.tally.specs.Largest.{Largest}
+use Rattle.measure.specs.declared.check.Verdict.the-variants.{Accepted, Refused}
+use Rattle.measure.specs.Gap.{linkTermOf}
 use Rattle.measure.specs.Check.{checkOf}
 use Rattle.counts.specs.declared.Row.the-variants.{Right}
-use Rattle.counts.specs.Counts.{shelfWords, countIn, testRow, rowIn}
+use Rattle.counts.specs.Counts.{shelfWords, countIn, testRow, rowIn, Ready}
 use Rattle.shelf.specs.Calls.{Call, own, keep, forget, clear}
 use Rattle.bench.specs.Answers.{hasFour}
-use Rattle.bench.specs.Calls.{CheckSays, ProposeSays, ReadSays, WriteSays, ShelfSays, FetchSays}
-use Rattle.claims.specs.Read.{jobIn, valuesIn}
+use Rattle.bench.specs.Calls.{CheckSays, TermsSays, ProposeSays, ReadSays, WriteSays, ShelfSays, FetchSays}
+use Rattle.claims.specs.Read.{jobIn, valuesIn, multipliersIn, gapIn}
 use Rattle.claims.specs.Meets.{NoneBelow}
+use Rattle.claims.specs.Verdicts.{CellTold}
 use Rattle.claims.specs.Lists.{emptied}
 use Rattle.claims.specs.LastKept.{ClearedWith}
 use Rattle.claims.specs.Seen.{Made, clears, Seen, MakesAll, listsSeen, withoutOthers, ownSeen, ownMade, NoClearing}
@@ -28,6 +33,7 @@ Claim A = (returned : ℕ) (answered : List ℕ) (left : List A) → Type 0
 -- What holds of every call, each with its answer slice and with what was in the slice that it writes to. The check writes to its answer alone.
 pub record OfEachCall (holds : (A : Type 0) (answer : List ℕ) (before : List A) → Claim A → Type 0) : Type 0 where
   pub check : (job proposal answer : List ℕ) → holds ℕ answer [] (λ r a left. CheckSays job proposal answer r a × (left ≡ []))
+  pub terms : (job proposal : List ℕ) (out : List ℤ) (answer : List ℕ) → holds ℤ answer out (TermsSays job proposal out answer)
   pub propose : (job out answer : List ℕ) → holds ℕ answer out (ProposeSays job out answer)
   pub read : (job : List ℕ) (words : List ℤ) (answer : List ℕ) → holds ℤ answer words (ReadSays job words answer)
   pub write : (words : List ℤ) (out answer : List ℕ) → holds ℕ answer out (WriteSays words out answer)
@@ -55,9 +61,11 @@ Among (other ∷ others) most number = (number ≡ other) ⊎ Among others most 
 abbrev pub NumberIn : (others : List ℕ) (most : ℕ) {A : Type 0} → Claim A → Type 0
 NumberIn others most {A} claim = (r : ℕ) (a : List ℕ) (x : List A) → claim r a x → Among others most (r % 32)
 
--- Each call gives the numbers that the table of document 01, with 20 of document 02 (W-205), W-203's for a fetch and 22 of W-209, has for it, and no other: a fetch never gives 11.
+-- Each call gives the numbers that the table of document 01, with 20 of document 02 (W-205), W-203's for a fetch and 22 of W-209, has for it, and no
+-- other: a fetch never gives 11, and the terms (W-202) never 9.
 pub record Numbered : Type 0 where
   pub check : (job proposal answer : List ℕ) (r : ℕ) (a : List ℕ) → CheckSays job proposal answer r a → Among (13 ∷ []) 9 (r % 32)
+  pub terms : (job proposal : List ℕ) (out : List ℤ) (answer : List ℕ) → NumberIn (13 ∷ []) 8 (TermsSays job proposal out answer)
   pub propose : (job out answer : List ℕ) → NumberIn (10 ∷ 13 ∷ 20 ∷ []) 5 (ProposeSays job out answer)
   pub read : (job : List ℕ) (words : List ℤ) (answer : List ℕ) → NumberIn (13 ∷ []) 5 (ReadSays job words answer)
   pub write : (words : List ℤ) (out answer : List ℕ) → NumberIn (13 ∷ []) 5 (WriteSays words out answer)
@@ -84,6 +92,7 @@ RefusalsKept = OfEachCall RefusalKept
 
 -- What holds of every call that writes to an output.
 pub record OfEachOutput (holds : (A : Type 0) (answer : List ℕ) (before : List A) → Claim A → Type 0) : Type 0 where
+  pub terms : (job proposal : List ℕ) (out : List ℤ) (answer : List ℕ) → holds ℤ answer out (TermsSays job proposal out answer)
   pub propose : (job out answer : List ℕ) → holds ℕ answer out (ProposeSays job out answer)
   pub read : (job : List ℕ) (words : List ℤ) (answer : List ℕ) → holds ℤ answer words (ReadSays job words answer)
   pub write : (words : List ℤ) (out answer : List ℕ) → holds ℕ answer out (WriteSays words out answer)
@@ -118,6 +127,32 @@ pub record AcceptedTold : Type 0 where
   pub check : (job proposal answer : List ℕ) (r : ℕ) (a : List ℕ) → CheckSays job proposal answer r a → r % 32 ≡ 0 → ToldBest job proposal 0 a
   pub keep : (job proposal shelf answer : List ℕ) (r : ℕ) (a x : List ℕ) → ShelfSays (own (keep job proposal)) shelf answer r a x → r % 32 ≡ 0 → ToldBest job proposal 0 a
   pub fetch : (shelf job out answer : List ℕ) (r : ℕ) (a x : List ℕ) → FetchSays shelf job out answer r a x → r % 32 ≡ 0 → ToldFetched job a x
+
+-- ---- what is told of a table that is not
+
+-- W-202: a keep on a shelf that has its words and allowed counts returns and answers what the check does, word for word: the place of 9 too. Of a fetch
+-- `FetchedAsChecked` says it.
+abbrev pub KeptAsChecked : Type 0
+KeptAsChecked =
+    (job proposal shelf answer : List ℕ) → Ready shelf → (r s : ℕ) (a b x : List ℕ)
+    → CheckSays job proposal answer r a → ShelfSays (own (keep job proposal)) shelf answer s b x → (r ≡ s) × (a ≡ b)
+
+-- W-202: "term, residual (0 for a link), side (0 box, 1 weight, 2 link)". Over all places the terms sum to the gap, a whole number of any size, and where
+-- the check answers 9, the largest of them stands at the place that it names, the lowest if several are equal.
+pub record TermsTold (job proposal : List ℕ) (left : List ℤ) : Type 0 where
+  pub cell : (i : ℕ) → i < jobIn job .cells
+      → CellTold (jobIn job) (valuesIn job proposal) (multipliersIn job proposal) i (wordAt left (3 * i)) (wordAt left (3 * i + 1)) (wordAt left (3 * i + 2))
+  pub link : (l : ℕ) → l < jobIn job .links
+      → (wordAt left (3 * (jobIn job .cells + l)) ≡ linkTermOf (jobIn job) (valuesIn job proposal) (multipliersIn job proposal) l)
+      × (wordAt left (3 * (jobIn job .cells + l) + 1) ≡ pos 0) × (wordAt left (3 * (jobIn job .cells + l) + 2) ≡ pos 2)
+  pub sums : sum (jobIn job .cells + jobIn job .links) (λ place. wordAt left (3 * place)) ≡ gapIn job proposal
+  pub largest : (place : ℕ) → checkOf job proposal ≡ Refused 9 place → Largest (λ p. wordAt left (3 * p)) (jobIn job .cells + jobIn job .links) place
+
+-- So it is wherever the call returns the number 0.
+abbrev pub TermsHanded : Type 0
+TermsHanded =
+    (job proposal : List ℕ) (out : List ℤ) (answer : List ℕ) (r : ℕ) (a : List ℕ) (x : List ℤ) → TermsSays job proposal out answer r a x → r % 32 ≡ 0
+    → TermsTold job proposal x
 
 -- ---- sequences
 

@@ -1,6 +1,6 @@
 -- What is promised of the check: short statements about `checkOf`, which the check's contract cites, and the definitions beside them. The
 -- proof of each stands in proofs/Promises.antt.
-use Prim.Native.Nat.{ℕ, _-_, _≤_}
+use Prim.Native.Nat.{ℕ, _+_, _-_, _≤_, _<_}
 use mathlib.Core.Path.{_≡_}
 use mathlib.Core.Logic.{_↔_}
 use mathlib.Core.Bool.{false}
@@ -8,7 +8,6 @@ use mathlib.Core.List.{List, [], _∷_, map}
 use lib.IntN.{ℤ, pos, _+ℤ_, _*ℤ_}
 use lib.Signed.{_≤ℤ_}
 use Rattle.whole.specs.Sum.{sum}
-use Rattle.rows.specs.Rows.{rowOf}
 use Rattle.certificate.specs.Problem.{squared}
 use Rattle.certificate.specs.Differences.{formAt}
 use Rattle.packs.specs.declared.Outcome.the-variants.{Refused as Refuses}
@@ -16,12 +15,13 @@ use Rattle.jobs.specs.Words.{wordAt}
 use Rattle.jobs.specs.Job.{Job}
 use Rattle.jobs.specs.Allowed.{Allowed}
 use Rattle.jobs.specs.Packs.{readJob}
+use Rattle.rows.specs.Rows.{rowOf}
 use Rattle.measure.specs.declared.check.Verdict.the-variants.{Accepted, Refused}
 use Rattle.measure.specs.Loss.{fitOf, lossOf}
 use Rattle.measure.specs.Check.{checkOf}
-use Rattle.claims.specs.Read.{jobIn, proposalIn, valuesIn, multipliersIn, lossIn, Reads, BothRead}
+use Rattle.claims.specs.Read.{jobIn, proposalIn, valuesIn, multipliersIn, lossIn, termIn, Reads, BothRead}
 use Rattle.claims.specs.Meets.{EveryInBox, EveryLinkHolds, Meets, scaledLossOf, NoneBelow, NoneNegative}
-use Rattle.claims.specs.Verdicts.{Acceptable, Outside, Broken, Above}
+use Rattle.claims.specs.Verdicts.{Acceptable, Outside, Broken, Above, SideSaid}
 use Rattle.claims.specs.Worked.{WorkedTable, plain, starred, grids}
 
 -- ---- accepted exactly, and what each refusal means
@@ -51,7 +51,7 @@ OutsideExactly = (job proposal : List ℕ) (place : ℕ) → (checkOf job propos
 abbrev pub BrokenExactly : Type 0
 BrokenExactly = (job proposal : List ℕ) (place : ℕ) → (checkOf job proposal ≡ Refused 8 place) ↔ Broken job proposal place
 
--- 9 says that the gap is above the tolerance, where every value is in its box and every link holds.
+-- 9 says that the gap is above the tolerance, where every value is in its box and every link holds, and names the largest term of the gap.
 abbrev pub AboveExactly : Type 0
 AboveExactly = (job proposal : List ℕ) (place : ℕ) → (checkOf job proposal ≡ Refused 9 place) ↔ Above job proposal place
 
@@ -59,7 +59,11 @@ AboveExactly = (job proposal : List ℕ) (place : ℕ) → (checkOf job proposal
 abbrev pub NoOtherRefusal : Type 0
 NoOtherRefusal = (job proposal : List ℕ) (number place : ℕ) → checkOf job proposal ≡ Refused number place → (1 ≤ number) × (number ≤ 9)
 
--- ---- no term is negative, and the loss is small
+-- Document 02, W-202: each cell term says whether the box or the weight supplied it.
+abbrev pub EachSideSaid : Type 0
+EachSideSaid = (job proposal : List ℕ) (i : ℕ) → SideSaid (jobIn job) (valuesIn job proposal) (multipliersIn job proposal) i
+
+-- ---- no term is negative or large, and the loss is small
 
 -- For a table that meets bounds and links no term is negative and no running total is above the gap: once such a total passes the tolerance, the
 -- answer is settled.
@@ -68,6 +72,13 @@ NoTermNegative =
     (job proposal : List ℕ) → BothRead job proposal
     → EveryInBox (jobIn job) (valuesIn job proposal) → EveryLinkHolds (jobIn job) (valuesIn job proposal)
     → NoneNegative (jobIn job) (valuesIn job proposal) (multipliersIn job proposal)
+
+-- W-202: however wide a table is, no single term of its gap leaves 64 bits, so the largest is told right where the sum of all would not fit.
+abbrev pub TermAtMost : Type 0
+TermAtMost =
+    (job proposal : List ℕ) → BothRead job proposal → EveryInBox (jobIn job) (valuesIn job proposal)
+    → EveryLinkHolds (jobIn job) (valuesIn job proposal) → (place : ℕ) → place < jobIn job .cells + jobIn job .links
+    → (pos 0 ≤ℤ termIn job proposal place) × (termIn job proposal place ≤ℤ pos 7000000000000000000)
 
 -- "The loss is at most 7.6·10^18."
 abbrev pub LossAtMost : Type 0

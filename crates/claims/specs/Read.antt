@@ -12,6 +12,7 @@ use Rattle.jobs.specs.Words.{jobOf}
 use Rattle.jobs.specs.Packs.{readJob, readProposal}
 use Rattle.measure.specs.Loss.{lossOf}
 use Rattle.measure.specs.Gap.{gapOf}
+use Rattle.measure.specs.Largest.{termAt}
 use Rattle.measure.specs.Check.{valuesOf, multipliersOf}
 
 -- The job of a job pack.
@@ -34,6 +35,10 @@ lossIn job proposal = lossOf (jobIn job) (valuesIn job proposal)
 
 abbrev pub gapIn : (job proposal : List ℕ) → ℤ
 gapIn job proposal = gapOf (jobIn job) (valuesIn job proposal) (multipliersIn job proposal)
+
+-- The term of the gap at a place, the cells' first.
+abbrev pub termIn : (job proposal : List ℕ) → (place : ℕ) → ℤ
+termIn job proposal = termAt (jobIn job) (valuesIn job proposal) (multipliersIn job proposal)
 
 -- A pack reads: its reading is done, after some count of words.
 abbrev pub Reads : Outcome → Type 0

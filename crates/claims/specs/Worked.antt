@@ -43,9 +43,9 @@ starred =
     -- "u 0 7 0, v 2 3 2: F 28, G 0"; "v 2 3 3: F 30, G 9"
     table (plain (0 ∷ []) 0 7 0) (2 ∷ 3 ∷ 2 ∷ []) (Accepted (pos 28) (pos 0))
     ∷ table (plain (9 ∷ []) 0 7 0) (2 ∷ 3 ∷ 3 ∷ []) (Accepted (pos 30) (pos 9))
-    -- "v 0 7 0: F 196, G 784; T 784 accepts, T 783 gives 9"
+    -- "v 0 7 0: F 196, G 784; T 784 accepts, T 783 gives 9": the terms are 196, 392 and 196, so the place of 9 is 1
     ∷ table (plain (144 ∷ 6 ∷ []) 0 7 0) (0 ∷ 7 ∷ 0 ∷ []) (Accepted (pos 196) (pos 784))
-    ∷ table (plain (143 ∷ 6 ∷ []) 0 7 0) (0 ∷ 7 ∷ 0 ∷ []) (Refused 9 0)
+    ∷ table (plain (143 ∷ 6 ∷ []) 0 7 0) (0 ∷ 7 ∷ 0 ∷ []) (Refused 9 1)
     -- "u 0 5 0, link -v0+v1 <= 0, v 2 2 1: multiplier 2 gives F 15, G 0; multiplier 0 gives G 2"
     ∷ table (linked (0 ∷ []) 0 5 0) (2 ∷ 2 ∷ 1 ∷ 2 ∷ []) (Accepted (pos 15) (pos 0))
     ∷ table (linked (2 ∷ []) 0 5 0) (2 ∷ 2 ∷ 1 ∷ 0 ∷ []) (Accepted (pos 15) (pos 2))
@@ -69,5 +69,5 @@ abbrev pub grids : List WorkedTable
 grids =
     table (selectJob 0) (10 ∷ 12 ∷ 14 ∷ 17 ∷ 21 ∷ 24 ∷ []) (Accepted (pos 211) (pos 0))
     ∷ table (selectJob 40) (10 ∷ 12 ∷ 15 ∷ 17 ∷ 21 ∷ 24 ∷ []) (Accepted (pos 219) (pos 40))
-    ∷ table (selectJob 39) (10 ∷ 12 ∷ 15 ∷ 17 ∷ 21 ∷ 24 ∷ []) (Refused 9 0)
+    ∷ table (selectJob 39) (10 ∷ 12 ∷ 15 ∷ 17 ∷ 21 ∷ 24 ∷ []) (Refused 9 2)
     ∷ []

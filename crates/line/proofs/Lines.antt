@@ -18,7 +18,8 @@ use Rattle.jobs.specs.Words.{cellsOf}
 use Rattle.jobs.specs.Packs.{readJob}
 use Rattle.measure.specs.declared.check.Verdict.{Verdict}
 use Rattle.measure.specs.declared.check.Verdict.the-variants.{Accepted, Refused}
-use Rattle.measure.specs.Check.{proposalWords, checkOf}
+use Rattle.measure.specs.Check.{checkOf}
+use Rattle.measure.specs.Opening.{proposalWords}
 use Rattle.checked.specs.Checked.{checkedOf}
 use Rattle.checked.specs.Answers.{overwritten}
 use Rattle.checked.proofs.Packs.{given-packs}
@@ -26,7 +27,7 @@ use Rattle.line.specs.Line.{printed, checkedLine, packsLine, lineOf}
 use Rattle.line.specs.Puts.{Puts}
 use Rattle.line.specs.Promises.{LinesFit}
 use Rattle.line.proofs.Widths.{two-fit}
-use Rattle.line.proofs.Tables.{words-fit, accepted-line, refused-line}
+use Rattle.line.proofs.Tables.{words-fit, accepted-line, refused-lines}
 
 checked-fits : (job proposal : List ℕ) → length (checkedLine (checkedOf job proposal)) ≤ 1024
 checked-fits job proposal = go (checkOf job proposal) refl
@@ -41,7 +42,7 @@ checked-fits job proposal = go (checkOf job proposal) refl
           ap length (accepted-line job proposal F G e words refl rates refl),
           words-fit words rates (cellsOf words) (natAbs F) (natAbs G) (given .job) (given .values),
         )
-    go (Refused number place) e = omega (arith, ap length (refused-line job proposal number place e), two-fit number place)
+    go (Refused number place) e = omega (arith, ap length (refused-lines job proposal number place e), two-fit number place)
 
 packs-fit : (input : List ℕ) (number : Number) → length (packsLine input number) ≤ 1024
 packs-fit input Unreadable = two-fit 1 0

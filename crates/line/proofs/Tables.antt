@@ -9,13 +9,15 @@ use lib.Seq.{sets}
 use Rattle.jobs.specs.Words.{countAt, cellsOf}
 use Rattle.jobs.specs.Packs.{readJob}
 use Rattle.measure.specs.declared.check.Verdict.{Verdict}
-use Rattle.measure.specs.declared.check.Verdict.the-variants.{Accepted, Refused}
-use Rattle.measure.specs.Check.{proposalWords, checkOf}
+use Rattle.measure.specs.declared.check.Verdict.the-variants.{Accepted}
+use Rattle.measure.specs.Check.{checkOf}
+use Rattle.measure.specs.Opening.{proposalWords}
 use Rattle.checked.specs.Checked.{takenFrom, checkedOf}
 use Rattle.checked.specs.Given.{JobWords, Rates}
 use Rattle.checked.proofs.Packs.{packs-name}
 use Rattle.line.specs.Line.{later, printed, verdictLine, checkedLine}
 use Rattle.line.specs.Puts.{Puts, Room, headFields}
+use Rattle.line.specs.Promises.{RefusedLines}
 use Rattle.line.proofs.Stores.{puts-then, puts-same, room-first, room-then, room-same}
 use Rattle.line.proofs.Parts.{table-parts}
 use Rattle.line.proofs.Widths.{table-fits, rates-small}
@@ -60,6 +62,6 @@ module _ (job proposal : List ℕ) (F G : ℤ) (e : checkOf job proposal ≡ Acc
       ∙ sym (ap (λ (v : Verdict). verdictLine v (checkedOf job proposal)) e)
 
 -- ---- and two that it has refused
-pub refused-line : (job proposal : List ℕ) (number place : ℕ) → checkOf job proposal ≡ Refused number place → printed number (place ∷ []) ≡ checkedLine (checkedOf job proposal)
+pub refused-lines : RefusedLines
 unfolding checkedOf checkedLine
-refused-line job proposal number place e = sym (ap (λ (v : Verdict). verdictLine v (checkedOf job proposal)) e)
+refused-lines job proposal number place e = ap (λ (v : Verdict). verdictLine v (checkedOf job proposal)) e

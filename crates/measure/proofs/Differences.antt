@@ -21,8 +21,8 @@ use Rattle.jobs.specs.Words.{wordAt}
 use Rattle.jobs.specs.Allowed.{Upto}
 use Rattle.rows.specs.Rows.{rowOf, IsRow}
 use Rattle.rows.proofs.Rule.{row-small, row-sum, row-size, less-size}
+use Rattle.tally.proofs.Locals.{read, rate-read}
 use Rattle.measure.specs.Given.{Coefficients, Differs}
-use Rattle.measure.proofs.Places.{read, rate-read}
 
 -- ---- a difference of rates, by any row
 

@@ -14,7 +14,6 @@ use lib.IntN.{ℤ, pos, natAbs, _+ℤ_, _*ℤ_, zero-*ℤ}
 use lib.ListN.{length, replicate, length-replicate}
 use mir.Syntax.{w64}
 use mir.Val.{SFits, toZ}
-use Rattle.numbers.specs.Choice.{if_then_else_}
 use Rattle.whole.specs.Sum.{sum}
 use Rattle.whole.proofs.Ring.{*ℤ-assoc}
 use Rattle.whole.proofs.Rows.{coefficient-times}
@@ -25,16 +24,17 @@ use Rattle.whole.proofs.Fits.{Holds, Adds, small-fits, fits-by, gives}
 use Rattle.certificate.specs.Problem.{squared}
 use Rattle.certificate.specs.Differences.{formAt, difference, coefficient, returned}
 use Rattle.certificate.proofs.Differences.{returned-is-gathered, gathered-size}
+use Rattle.numbers.specs.Choice.{if_then_else_}
 use Rattle.jobs.specs.Words.{wordAt, cellsOf, columnsOf, orderOf, acrossOf, secondOf, jobOf}
 use Rattle.jobs.specs.Allowed.{Upto, ShapeAllowed}
 use Rattle.jobs.proofs.Places.{zeros-at, columns-some, columns-few, order-inside}
 use Rattle.rows.specs.Rows.{rowOf, IsRow}
 use Rattle.rows.proofs.Rule.{row-small, row-size}
+use Rattle.tally.proofs.Locals.{read}
 use Rattle.measure.specs.Loss.{familyWith, formWithin, differenceWithin, familyOf, familyAcross, acrossAt, roughness, lossOf}
 use Rattle.measure.specs.Given.{Given, Differs, GivesBack, Smooths, Smoothing, Losing}
 use Rattle.measure.specs.Running.{Added, backAt}
 use Rattle.measure.specs.OnWords.{fitOn, lossOn, roughOn, smoothOn}
-use Rattle.measure.proofs.Places.{read}
 use Rattle.measure.proofs.Differences.{row-coefficients, row-coefficient, row-form, difference-small, difference-less}
 use Rattle.measure.proofs.Losses.{fit-at-most}
 use Rattle.measure.proofs.Scattered.{terms-small, added-none, added-by, added-then}

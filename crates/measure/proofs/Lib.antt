@@ -2,8 +2,7 @@
 pub mod Places
 pub mod Differences
 pub mod Losses
-pub mod Terms
-pub mod Totals
+pub mod Largest
 pub mod Lowest
 pub mod Scattered
 pub mod Walks

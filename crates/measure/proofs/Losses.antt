@@ -12,9 +12,9 @@ use Rattle.whole.proofs.Magnitude.{bound-*}
 use Rattle.whole.proofs.Fits.{Adds, partial-small, small-fits, gives}
 use Rattle.certificate.specs.Problem.{squared}
 use Rattle.jobs.specs.Words.{wordAt, cellsOf, jobOf}
+use Rattle.tally.proofs.Locals.{read, rate-read, weight-read}
+use Rattle.tally.proofs.Terms.{apart-small}
 use Rattle.measure.specs.Given.{Given}
-use Rattle.measure.proofs.Places.{read, rate-read, weight-read}
-use Rattle.measure.proofs.Terms.{apart-small}
 use Rattle.measure.specs.OnWords.{fitTermOn, fitOn}
 
 module _ {ws ps : List ℤ} (G : Given ws ps) (i : ℕ) (h : i < cellsOf ws) where

@@ -11,9 +11,9 @@ use Rattle.whole.proofs.Magnitude.{bound-+, bound--, bound-*}
 use Rattle.whole.proofs.Fits.{small-fits, gives}
 use Rattle.jobs.specs.Words.{wordAt, jobOf}
 use Rattle.jobs.specs.Allowed.{Upto}
+use Rattle.tally.proofs.Locals.{read, rate-read, weight-read}
 use Rattle.measure.specs.Given.{Slopes, ResidualAt}
 use Rattle.measure.specs.OnWords.{residualWith}
-use Rattle.measure.proofs.Places.{read, rate-read, weight-read}
 
 module _ {w v u part : ℤ} (h : Slopes w v u part) where
   ww : natAbs (pos 2 *ℤ w) ≤ 2000

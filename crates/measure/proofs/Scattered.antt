@@ -20,9 +20,9 @@ use Rattle.whole.proofs.Magnitude.{bound-+, bound-*}
 use Rattle.whole.proofs.Fits.{small-fits, gives}
 use Rattle.jobs.specs.Words.{wordAt, countAt}
 use Rattle.jobs.specs.Allowed.{Upto, Counts}
+use Rattle.tally.proofs.Locals.{read}
 use Rattle.measure.specs.Given.{LinkAt, Adding, Scattering, GivesBack}
 use Rattle.measure.specs.Running.{Added, partAt}
-use Rattle.measure.proofs.Places.{read}
 
 -- ---- one word
 

@@ -1,39 +1,48 @@
 -- What the check hands from one step to the next: the boxes, the walk over the links, and the gap that the running total decides.
-use Prim.Native.Nat.{ℕ, _≤_, _<_}
+use Prim.Native.Nat.{ℕ, _+_, _≤_, _<_}
 use mathlib.Core.Path.{_≡_, refl, sym, ap, ap₂, subst, subst₂, _∙_}
 use mathlib.Core.Bool.{Bool, true, false, _&&_}
 use mathlib.Core.List.{List}
 use native.Mathlib.Nat as N
 use native.Mathlib.Omega.{arith}
 use borrow.Author.Tests.{lt-ltb, le-ltb, ltb-false}
-use lib.Dec.{lit<, ltb}
-use lib.IntN.{ℤ, pos, natAbs, _+ℤ_, +ℤ-idl, +ℤ-comm}
-use lib.ListN.{length, replicate, length-replicate}
-use lib.Signed.{_≤ℤ_, leZ, leZ-yes}
+use lib.Dec.{lit<, ltb, leb→le}
+use lib.IntN.{ℤ, pos, natAbs, _+ℤ_, _*ℤ_, +ℤ-idl, +ℤ-comm}
+use lib.ListN.{replicate, length-replicate}
+use lib.Signed.{_≤ℤ_, leZ, ltZ, leZ-yes}
 use mir.Syntax.{w64}
 use mir.Val.{SFits}
+use Rattle.whole.specs.Sum.{sum}
+use Rattle.whole.proofs.Sums.{sum-zero}
+use Rattle.whole.proofs.Fits.{small-fits, gives}
 use Rattle.numbers.specs.Choice.{if_then_else_}
 use Rattle.numbers.proofs.Clash.{clash}
-use Rattle.whole.specs.Sum.{sum}
-use Rattle.whole.proofs.Fits.{small-fits, gives}
 use Rattle.jobs.specs.Words.{wordAt, cellsOf, linksOf, jobOf}
 use Rattle.jobs.proofs.Places.{zeros-at}
+use Rattle.tally.specs.declared.Tally.{Tally}
+use Rattle.tally.specs.Largest.{largestOf}
+use Rattle.tally.specs.Given.{Led}
+use Rattle.tally.specs.Tally.{runOf, topOf, talliedOf, placeOf}
+use Rattle.tally.proofs.Locals.{read, rate-read, tolerance-fits}
+use Rattle.tally.proofs.Terms.{true-T}
+use Rattle.tally.proofs.Totals.{Runs, run-least, run-small, run-fits, Tells, tells-start, run-tells, not-le-lt, lt-not-le}
+use Rattle.tally.proofs.Largest.{top-small, largest-few}
 use Rattle.measure.specs.declared.check.Verdict.{Verdict}
 use Rattle.measure.specs.declared.check.Verdict.the-variants.{Accepted, Refused}
 use Rattle.measure.specs.declared.links.Walked.{Walked}
-use Rattle.measure.specs.declared.links.Walked.the-variants.{Broken, Held}
-use Rattle.measure.specs.Gap.{gapOf}
+use Rattle.measure.specs.declared.links.Walked.the-variants.{Unmet, Held}
+use Rattle.measure.specs.Gap.{linkCoefficient, gapOf}
+use Rattle.measure.specs.Largest.{largestPlace}
 use Rattle.measure.specs.Check.{lowestFailing, verdictOf, verdictFor}
-use Rattle.measure.specs.Given.{Given, Smoothing, Losing, Walking, Totalling, Boxes, Judging}
-use Rattle.measure.specs.Running.{Added, runOf, walkOf, onWalked}
-use Rattle.measure.proofs.Places.{read, rate-read, tolerance-fits}
+use Rattle.measure.specs.Given.{Given, Smoothing, Losing, Walking, Totalling, Parted, Judging}
+use Rattle.measure.specs.Running.{Added, walkOf, outside, metOf, walkedLinks}
+use Rattle.measure.specs.OnWords.{multiplierOn, inBoxOn, holdsOn, lossOn, roughOn, smoothOn, cellTermOn, linkTermOn, gapOn, judgedOn, heldOn, partsOn, walkOn, metOn, walkedOn}
 use Rattle.measure.proofs.Directions.{rough-fits, loss-in-64}
-use Rattle.measure.proofs.Terms.{true-T}
-use Rattle.measure.proofs.Totals.{Runs, run-least, run-small, run-fits, Tells, tells-start, run-tells, not-le-lt, lt-not-le}
+use Rattle.measure.proofs.Largest.{place-is}
 use Rattle.measure.proofs.Lowest.{Passed, lowest-all, passed-all}
+use Rattle.measure.proofs.Scattered.{added-none}
 use Rattle.measure.proofs.Walks.{links-run, parts-small}
 use Rattle.measure.proofs.Totalled.{cells-run}
-use Rattle.measure.specs.OnWords.{inBoxOn, holdsOn, lossOn, roughOn, smoothOn, cellTermOn, linkTermOn, gapOn, judgedOn, heldOn, partsOn, walkOn}
 
 -- ---- a cell's box, in code
 
@@ -53,145 +62,187 @@ module _ {ws ps : List ℤ} (G : Given ws ps) (i : ℕ) (h : i < cellsOf ws) whe
 
 -- ---- 7, 8, and what is left
 
-abbrev verdictBy : (ws ps : List ℤ) → (outside broken : Bool) → Verdict
-verdictBy ws ps outside broken =
-    if outside then Refused 7 (lowestFailing (inBoxOn ws ps) (cellsOf ws)) else if broken then Refused 8 (heldOn ws ps) else judgedOn ws ps
+abbrev metBy : (ws ps : List ℤ) → (outside broken : Bool) → Walked
+metBy ws ps outside broken =
+    if outside then Unmet 7 (lowestFailing (inBoxOn ws ps) (cellsOf ws)) else
+    if broken then Unmet 8 (heldOn ws ps) else
+    Held (talliedOf (jobOf ws .tolerance) (pos 0) (linkTermOn ws ps) (linksOf ws))
 
-verdict-by : (ws ps : List ℤ) (a b : Bool) → ltb (lowestFailing (inBoxOn ws ps) (cellsOf ws)) (cellsOf ws) ≡ a → ltb (heldOn ws ps) (linksOf ws) ≡ b
-    → verdictBy ws ps a b ≡ verdictFor (jobOf ws) ps
-unfolding verdictOf
-verdict-by ws ps a b e q = ap₂ (verdictBy ws ps) (sym e) (sym q)
+-- the verdict goes by what the boxes and the walk over the links answer
+abbrev onMet : Walked → (kept : Verdict) → Verdict
+onMet (Unmet number place) kept = Refused number place
+onMet (Held tally) kept = kept
 
-module _ {ws ps : List ℤ} (G : Given ws ps) {n cell : ℕ} (en : n ≡ cellsOf ws) (ek : cell ≡ lowestFailing (inBoxOn ws ps) (cellsOf ws)) where
-  pub verdict-outside : cell < n → Refused 7 cell ≡ verdictFor (jobOf ws) ps
-  verdict-outside h =
-      ap (Refused 7) ek
-      ∙ verdict-by ws ps true (ltb (heldOn ws ps) (linksOf ws))
-      (ap₂ ltb (sym ek) (sym en) ∙ lt-ltb cell n h) refl
+met-verdict : (ws ps : List ℤ) → onMet (metOn ws ps) (judgedOn ws ps) ≡ verdictFor (jobOf ws) ps
+unfolding verdictOf metOf walkOf
+met-verdict ws ps = go (outside (jobOf ws) (wordAt ps)) (ltb (heldOn ws ps) (linksOf ws))
+  where
+    go : (a b : Bool) → onMet (metBy ws ps a b) (judgedOn ws ps)
+        ≡ (if a then Refused 7 (lowestFailing (inBoxOn ws ps) (cellsOf ws)) else if b then Refused 8 (heldOn ws ps) else judgedOn ws ps)
+    go true b = refl
+    go false true = refl
+    go false false = refl
 
-  pub verdict-boxes : n ≤ cell → Boxes ws ps n
-  verdict-boxes h = record {
-    given = G;
-    n-is = en;
-    boxes = passed-all (inBoxOn ws ps) n (subst (λ (x : ℕ). n ≤ x) (ek ∙ ap (lowestFailing (inBoxOn ws ps)) (sym en)) h);
+module _ (ws ps : List ℤ) {w : Walked} (ew : w ≡ metOn ws ps) where
+  pub met-refused : {number place : ℕ} → w ≡ Unmet number place → Refused number place ≡ verdictFor (jobOf ws) ps
+  met-refused q = ap (λ (x : Walked). onMet x (judgedOn ws ps)) (sym q ∙ ew) ∙ met-verdict ws ps
+
+  pub met-judged : {t : Tally} → w ≡ Held t → judgedOn ws ps ≡ verdictFor (jobOf ws) ps
+  met-judged q = ap (λ (x : Walked). onMet x (judgedOn ws ps)) (sym q ∙ ew) ∙ met-verdict ws ps
+
+-- a table that does not meet its job is refused with 7 or 8
+pub unmet-number : (ws ps : List ℤ) {number place : ℕ} → metOn ws ps ≡ Unmet number place → (7 ≤ number) × (number ≤ 8)
+unfolding metOf walkOf
+unmet-number ws ps {number} {place} e = go (outside (jobOf ws) (wordAt ps)) (ltb (heldOn ws ps) (linksOf ws)) e
+  where
+    go : (a b : Bool) → metBy ws ps a b ≡ Unmet number place → (7 ≤ number) × (number ≤ 8)
+    go true b e = let q : 7 ≡ number = cc in (omega (arith, q), omega (arith, q))
+    go false true e = let q : 8 ≡ number = cc in (omega (arith, q), omega (arith, q))
+    go false false e = clash (cc)
+
+-- ---- the boxes, then the walk
+
+module _ {ws ps : List ℤ} {n : ℕ} {parts₀ : List ℤ} (W : Walking ws ps n parts₀) {cell : ℕ} (ek : cell ≡ lowestFailing (inBoxOn ws ps) (cellsOf ws)) where
+  module _ (h : cell < n) where
+    out : outside (jobOf ws) (wordAt ps) ≡ true
+    out = ap₂ ltb (sym ek) (sym (W .n-is)) ∙ lt-ltb cell n h
+
+    pub meet-outside : Unmet 7 cell ≡ metOn ws ps
+    unfolding metOf
+    meet-outside = ap (Unmet 7) ek ∙ ap (λ (b : Bool). if b then Unmet 7 (lowestFailing (inBoxOn ws ps) (cellsOf ws)) else walkOn ws ps) (sym out)
+
+    pub meet-none : Added (partsOn ws ps (walkedOn ws ps)) parts₀ parts₀
+    unfolding walkedLinks
+    meet-none =
+        added-none parts₀ (λ i. ap (λ (b : Bool). partsOn ws ps (if b then 0 else heldOn ws ps) i) out ∙ sum-zero (λ l. multiplierOn ws ps l *ℤ linkCoefficient (jobOf ws) l i))
+
+  module _ (h : n ≤ cell) where
+    inside : outside (jobOf ws) (wordAt ps) ≡ false
+    inside = ap₂ ltb (sym ek) (sym (W .n-is)) ∙ le-ltb cell n h
+
+    pub meet-walked : {w : Walked} → w ≡ walkOn ws ps → w ≡ metOn ws ps
+    unfolding metOf
+    meet-walked q = q ∙ ap (λ (b : Bool). if b then Unmet 7 (lowestFailing (inBoxOn ws ps) (cellsOf ws)) else walkOn ws ps) (sym inside)
+
+    pub meet-added : {parts : List ℤ} → Added (partsOn ws ps (heldOn ws ps)) parts₀ parts → Added (partsOn ws ps (walkedOn ws ps)) parts₀ parts
+    unfolding walkedLinks
+    meet-added {parts} A = subst (λ (b : Bool). Added (partsOn ws ps (if b then 0 else heldOn ws ps)) parts₀ parts) (sym inside) A
+
+-- ---- a table that meets its job
+
+pub walking : {ws ps : List ℤ} → Given ws ps → {n : ℕ} → n ≡ cellsOf ws → Walking ws ps n (replicate 120 (pos 0))
+walking G en = record { given = G; n-is = en; room = rw (length-replicate 120 (pos 0)) (omega (arith, en, G .allowed .cells-few)); zeros = zeros-at 120 }
+
+record MetWith (ws ps : List ℤ) (t : Tally) : Type 0 where
+  boxed : outside (jobOf ws) (wordAt ps) ≡ false
+  linked : ltb (heldOn ws ps) (linksOf ws) ≡ false
+  tally-is : t ≡ talliedOf (jobOf ws .tolerance) (pos 0) (linkTermOn ws ps) (linksOf ws)
+
+met-with : (ws ps : List ℤ) (t : Tally) → metOn ws ps ≡ Held t → MetWith ws ps t
+unfolding metOf walkOf
+met-with ws ps t e = go (outside (jobOf ws) (wordAt ps)) (ltb (heldOn ws ps) (linksOf ws)) refl refl e
+  where
+    go : (a b : Bool) → outside (jobOf ws) (wordAt ps) ≡ a → ltb (heldOn ws ps) (linksOf ws) ≡ b → metBy ws ps a b ≡ Held t → MetWith ws ps t
+    go true b p q e = clash (cc)
+    go false true p q e = clash (cc)
+    go false false p q e = record { boxed = p; linked = q; tally-is = cc }
+
+module _ {ws ps : List ℤ} {n : ℕ} {parts₀ : List ℤ} (W : Walking ws ps n parts₀) {t : Tally} (e : metOn ws ps ≡ Held t) where
+  met : MetWith ws ps t
+  met = met-with ws ps t e
+
+  kept : Passed (holdsOn ws ps) (linksOf ws)
+  kept = passed-all (holdsOn ws ps) (linksOf ws) (ltb-false (heldOn ws ps) (linksOf ws) (met .linked))
+
+  all-walked : walkedOn ws ps ≡ linksOf ws
+  unfolding walkedLinks
+  all-walked = ap (λ (b : Bool). if b then 0 else heldOn ws ps) (met .boxed) ∙ lowest-all (holdsOn ws ps) (linksOf ws) kept
+
+  pub meet-judging : {parts : List ℤ} → Added (partsOn ws ps (walkedOn ws ps)) parts₀ parts → Judging ws ps n t parts
+  meet-judging {parts} A = record {
+    parted = record {
+      table = record {
+        given = W .given;
+        n-is = W .n-is;
+        boxes = subst (λ (x : ℕ). Passed (inBoxOn ws ps) x) (sym (W .n-is)) (passed-all (inBoxOn ws ps) (cellsOf ws) (ltb-false (lowestFailing (inBoxOn ws ps) (cellsOf ws)) (cellsOf ws) (met .boxed)));
+      };
+      kept = kept;
+      parts-room = subst (λ (x : ℕ). n ≤ x) (sym (A .long)) (W .room);
+      parts-are = λ i h.
+          A .at i ∙ ap₂ (λ (x : ℤ) (k : ℕ). x +ℤ partsOn ws ps k i) (W .zeros i) all-walked
+          ∙ +ℤ-idl (partsOn ws ps (linksOf ws) i);
+    };
+    tally-is = met .tally-is;
   }
 
--- ---- after the walk
+-- ---- its differences
 
-abbrev walkBy : (ws ps : List ℤ) → (broken : Bool) → Walked
-walkBy ws ps broken = if broken then Broken (heldOn ws ps) else Held (runOf (jobOf ws .tolerance) (pos 0) (linkTermOn ws ps) (linksOf ws))
+module _ {ws ps : List ℤ} {n : ℕ} {parts : List ℤ} (P : Parted ws ps n parts) where
+  pub parted-smoothing : Smoothing ws ps n parts
+  parted-smoothing = record {
+    given = P .table .given;
+    n-is = P .table .n-is;
+    room = P .parts-room;
+    small = λ i h.
+        subst (λ (x : ℤ). natAbs x ≤ 6400000000000) (sym (P .parts-are i h))
+        (parts-small (P .table .given) (linksOf ws) i (N.le-refl (linksOf ws)));
+  }
 
-walk-held-with : (ws ps : List ℤ) (t : ℤ) → walkOn ws ps ≡ Held t
-    → (ltb (heldOn ws ps) (linksOf ws) ≡ false) × (t ≡ runOf (jobOf ws .tolerance) (pos 0) (linkTermOn ws ps) (linksOf ws))
-unfolding walkOf
-walk-held-with ws ps t e = go (ltb (heldOn ws ps) (linksOf ws)) refl e
-  where
-    go : (o : Bool) → ltb (heldOn ws ps) (linksOf ws) ≡ o → walkBy ws ps o ≡ Held t
-        → (ltb (heldOn ws ps) (linksOf ws) ≡ false) × (t ≡ runOf (jobOf ws .tolerance) (pos 0) (linkTermOn ws ps) (linksOf ws))
-    go true q e = clash (cc)
-    go false q e = (q, cc)
-
-module _ {ws ps : List ℤ} {n : ℕ} (B : Boxes ws ps n) where
-  pub room-is : n ≤ length (replicate 120 (pos 0))
-  room-is = rw (length-replicate 120 (pos 0)) (omega (arith, B .n-is, B .given .allowed .cells-few))
-
-  pub weigh-walking : Walking ws ps n (replicate 120 (pos 0))
-  weigh-walking = record { given = B .given; n-is = B .n-is; room = room-is; zeros = zeros-at 120 }
-
-  in-boxes : ltb (lowestFailing (inBoxOn ws ps) (cellsOf ws)) (cellsOf ws) ≡ false
-  in-boxes =
-      ap (λ (x : ℕ). ltb x (cellsOf ws)) (lowest-all (inBoxOn ws ps) (cellsOf ws) (subst (λ (x : ℕ). Passed (inBoxOn ws ps) x) (B .n-is) (B .boxes)))
-      ∙ le-ltb (cellsOf ws) (cellsOf ws) (N.le-refl (cellsOf ws))
-
-  pub verdict-walked : onWalked (walkOn ws ps) (judgedOn ws ps) ≡ verdictFor (jobOf ws) ps
-  unfolding walkOf
-  verdict-walked = go (ltb (heldOn ws ps) (linksOf ws)) refl
-    where
-      go : (o : Bool) → ltb (heldOn ws ps) (linksOf ws) ≡ o → onWalked (walkBy ws ps o) (judgedOn ws ps) ≡ verdictFor (jobOf ws) ps
-      go true q = verdict-by ws ps false true in-boxes q
-      go false q = verdict-by ws ps false false in-boxes q
-
-  module _ {w : Walked} (ew : w ≡ walkOn ws ps) where
-    pub weighed-broken : {l : ℕ} → w ≡ Broken l → Refused 8 l ≡ onWalked (walkOn ws ps) (judgedOn ws ps)
-    weighed-broken q = ap (λ (x : Walked). onWalked x (judgedOn ws ps)) (sym q ∙ ew)
-
-    pub weighed-held : {a : Verdict} {t : ℤ} → w ≡ Held t → a ≡ judgedOn ws ps → a ≡ onWalked (walkOn ws ps) (judgedOn ws ps)
-    weighed-held q e = e ∙ ap (λ (x : Walked). onWalked x (judgedOn ws ps)) (sym q ∙ ew)
-
-  module _ {t : ℤ} (q : walkOn ws ps ≡ Held t) where
-    held : (ltb (heldOn ws ps) (linksOf ws) ≡ false)
-        × (t ≡ runOf (jobOf ws .tolerance) (pos 0) (linkTermOn ws ps) (linksOf ws))
-    held = walk-held-with ws ps t q
-
-    kept : Passed (holdsOn ws ps) (linksOf ws)
-    kept = passed-all (holdsOn ws ps) (linksOf ws) (ltb-false (heldOn ws ps) (linksOf ws) (held .0))
-
-    all-held : heldOn ws ps ≡ linksOf ws
-    all-held = lowest-all (holdsOn ws ps) (linksOf ws) kept
-
-    t-read : read t ≡ t
-    t-read = gives refl (subst (λ (x : ℤ). SFits w64 x) (sym (held .1)) (run-fits (links-run (B .given) (linksOf ws) (N.le-refl (linksOf ws)) kept) (linksOf ws) (N.le-refl (linksOf ws))))
-
-    pub weigh-judging : {parts : List ℤ} → Added (partsOn ws ps (heldOn ws ps)) (replicate 120 (pos 0)) parts → Judging ws ps n (read t) parts
-    weigh-judging {parts} A = record {
-      table = B;
-      kept = kept;
-      total-is = t-read ∙ held .1;
-      parts-room = subst (λ (x : ℕ). n ≤ x) (sym (A .long)) room-is;
-      parts-are = λ i h.
-          A .at i ∙ ap₂ (λ (x : ℤ) (k : ℕ). x +ℤ partsOn ws ps k i) (zeros-at 120 i) all-held
-          ∙ +ℤ-idl (partsOn ws ps (linksOf ws) i);
-    }
+  pub parted-totalling : {parts′ : List ℤ} → Added (smoothOn ws ps) parts parts′ → {start : ℤ} → pos 0 ≤ℤ start → natAbs start ≤ 8000000000000000000 → Totalling ws ps n parts′ start
+  parted-totalling A l s = record {
+    given = P .table .given;
+    n-is = P .table .n-is;
+    room = omega (arith, P .parts-room, A .long);
+    parts-are = λ i h. A .at i ∙ ap (λ (x : ℤ). x +ℤ smoothOn ws ps i) (P .parts-are i h);
+    boxes = P .table .boxes;
+    start-least = l;
+    start-small = s;
+  }
 
 -- ---- 9, or the loss and the gap
 
-module _ {ws ps : List ℤ} {n : ℕ} {total : ℤ} {parts : List ℤ} (J : Judging ws ps n total parts) where
-  pub judge-smoothing : Smoothing ws ps n parts
-  judge-smoothing = record {
-    given = J .table .given;
-    n-is = J .table .n-is;
-    room = J .parts-room;
-    small = λ i h.
-        subst (λ (x : ℤ). natAbs x ≤ 6400000000000) (sym (J .parts-are i h))
-        (parts-small (J .table .given) (linksOf ws) i (N.le-refl (linksOf ws)));
-  }
+module _ {ws ps : List ℤ} {n : ℕ} {links : Tally} {parts : List ℤ} (J : Judging ws ps n links parts) where
+  abbrev given : Given ws ps
+  given = J .parted .table .given
+
+  abbrev n-is : n ≡ cellsOf ws
+  n-is = J .parted .table .n-is
 
   module _ {rough : ℤ} (er : rough ≡ roughOn ws ps) where
     pub judge-losing : Losing ws ps n (read rough)
-    judge-losing = record { given = J .table .given; n-is = J .table .n-is; rough-is = gives er (rough-fits (J .table .given)) }
+    judge-losing = record { given = given; n-is = n-is; rough-is = gives er (rough-fits (given)) }
 
   module _ {parts′ : List ℤ} (A : Added (smoothOn ws ps) parts parts′) where
     linked : Runs (jobOf ws .tolerance) (pos 0) (linkTermOn ws ps) (linksOf ws)
-    linked = links-run (J .table .given) (linksOf ws) (N.le-refl (linksOf ws)) (J .kept)
+    linked = links-run (given) (linksOf ws) (N.le-refl (linksOf ws)) (J .parted .kept)
 
-    total-small : natAbs total ≤ 8000000000000000000
-    total-small = subst (λ (x : ℤ). natAbs x ≤ 8000000000000000000) (sym (J .total-is)) (run-small linked (linksOf ws) (N.le-refl (linksOf ws)))
+    total-is : links .total ≡ runOf (jobOf ws .tolerance) (pos 0) (linkTermOn ws ps) (linksOf ws)
+    total-is = ap (λ (x : Tally). x .total) (J .tally-is)
 
-    plain : Totalling ws ps n parts′ total
-    plain = record {
-      given = J .table .given;
-      n-is = J .table .n-is;
-      room = omega (arith, J .parts-room, A .long);
-      parts-are = λ i h. A .at i ∙ ap (λ (x : ℤ). x +ℤ smoothOn ws ps i) (J .parts-are i h);
-      boxes = J .table .boxes;
-      start-least = subst (λ (x : ℤ). pos 0 ≤ℤ x) (sym (J .total-is)) (run-least linked (linksOf ws) (N.le-refl (linksOf ws)));
-      start-small = total-small;
-    }
+    total-small : natAbs (links .total) ≤ 8000000000000000000
+    total-small = subst (λ (x : ℤ). natAbs x ≤ 8000000000000000000) (sym total-is) (run-small linked (linksOf ws) (N.le-refl (linksOf ws)))
 
-    total-read : read total ≡ total
-    total-read = gives refl (small-fits total total-small (lit< tt))
+    plain : Totalling ws ps n parts′ (links .total)
+    plain =
+        parted-totalling (J .parted) A (subst (λ (x : ℤ). pos 0 ≤ℤ x) (sym total-is) (run-least linked (linksOf ws) (N.le-refl (linksOf ws)))) total-small
 
-    pub judge-totalling : Totalling ws ps n parts′ (read total)
+    total-read : read (links .total) ≡ links .total
+    total-read = gives refl (small-fits (links .total) total-small (lit< tt))
+
+    pub judge-totalling : Totalling ws ps n parts′ (read (links .total))
     judge-totalling = subst (λ (x : ℤ). Totalling ws ps n parts′ x) (sym total-read) plain
 
-    -- with the gap's total and the tolerance that the code has
-    module _ {g t : ℤ} (eg : g ≡ runOf (jobOf ws .tolerance) (read total) (cellTermOn ws ps) (cellsOf ws))
+    -- with the cells' tally and the tolerance that the code has
+    module _ {cells : Tally} {t : ℤ} (eg : cells ≡ talliedOf (jobOf ws .tolerance) (read (links .total)) (cellTermOn ws ps) (cellsOf ws))
         (et : t ≡ jobOf ws .tolerance) where
-      celled : Runs (jobOf ws .tolerance) total (cellTermOn ws ps) (cellsOf ws)
-      celled = subst (λ (x : ℕ). Runs (jobOf ws .tolerance) total (cellTermOn ws ps) x) (J .table .n-is) (cells-run plain)
+      abbrev g : ℤ
+      g = cells .total
 
-      g-is : g ≡ runOf (jobOf ws .tolerance) total (cellTermOn ws ps) (cellsOf ws)
-      g-is = eg ∙ ap (λ (x : ℤ). runOf (jobOf ws .tolerance) x (cellTermOn ws ps) (cellsOf ws)) total-read
+      celled : Runs (jobOf ws .tolerance) (links .total) (cellTermOn ws ps) (cellsOf ws)
+      celled = subst (λ (x : ℕ). Runs (jobOf ws .tolerance) (links .total) (cellTermOn ws ps) x) (n-is) (cells-run plain)
+
+      g-is : g ≡ runOf (jobOf ws .tolerance) (links .total) (cellTermOn ws ps) (cellsOf ws)
+      g-is = ap (λ (x : Tally). x .total) eg ∙ ap (λ (x : ℤ). runOf (jobOf ws .tolerance) x (cellTermOn ws ps) (cellsOf ws)) total-read
 
       both : pos 0 +ℤ sum (linksOf ws) (linkTermOn ws ps) +ℤ sum (cellsOf ws) (cellTermOn ws ps)
           ≡ gapOn ws ps
@@ -205,7 +256,7 @@ module _ {ws ps : List ℤ} {n : ℕ} {total : ℤ} {parts : List ℤ} (J : Judg
       tells =
           subst₂ (λ (s x : ℤ). Tells (jobOf ws .tolerance) s x) both (sym g-is)
           (run-tells celled
-          (subst (λ (x : ℤ). Tells (jobOf ws .tolerance) (pos 0 +ℤ sum (linksOf ws) (linkTermOn ws ps)) x) (sym (J .total-is))
+          (subst (λ (x : ℤ). Tells (jobOf ws .tolerance) (pos 0 +ℤ sum (linksOf ws) (linkTermOn ws ps)) x) (sym total-is)
           (run-tells linked (tells-start (jobOf ws .tolerance) (pos 0)) (linksOf ws) (N.le-refl (linksOf ws))))
           (cellsOf ws) (N.le-refl (cellsOf ws)))
 
@@ -213,21 +264,39 @@ module _ {ws ps : List ℤ} {n : ℕ} {total : ℤ} {parts : List ℤ} (J : Judg
       g-read = gives refl (subst (λ (x : ℤ). SFits w64 x) (sym g-is) (run-fits celled (cellsOf ws) (N.le-refl (cellsOf ws))))
 
       test-is : leZ (read g) (read t) ≡ leZ g (jobOf ws .tolerance)
-      test-is = ap₂ leZ g-read (gives et (tolerance-fits (J .table .given .allowed .tolerance)))
+      test-is = ap₂ leZ g-read (gives et (tolerance-fits (given .allowed .tolerance)))
 
       abbrev judgedBy : Bool → Verdict
       judgedBy o =
-          if o then Accepted (lossOn ws ps) (gapOn ws ps) else Refused 9 0
+          if o then Accepted (lossOn ws ps) (gapOn ws ps) else Refused 9 (largestPlace (jobOf ws) (wordAt ps) (multiplierOn ws ps))
 
       pub judged-accepts : {f : ℤ} → f ≡ lossOn ws ps → leZ (read g) (read t) ≡ true
           → Accepted (read f) (read g) ≡ judgedOn ws ps
       judged-accepts {f} q e =
           let k : g ≡ gapOn ws ps = tells .exact (leZ-yes (true-T (sym test-is ∙ e))) in
-          ap₂ Accepted (gives q (loss-in-64 (J .table .given))) (g-read ∙ k)
+          ap₂ Accepted (gives q (loss-in-64 (given))) (g-read ∙ k)
           ∙ ap judgedBy (sym (ap (λ (x : ℤ). leZ x (jobOf ws .tolerance)) (sym k) ∙ sym test-is ∙ e))
 
-      pub judged-refuses : leZ (read g) (read t) ≡ false → Refused 9 0 ≡ judgedOn ws ps
-      judged-refuses e =
-          ap judgedBy
+      pub judge-led : Led n cells links
+      judge-led = record {
+        cells-small = subst (λ (x : Tally). natAbs (x .largest) ≤ 7000000000000000000) (sym eg) (top-small (cellTermOn ws ps) (cellsOf ws) 7000000000000000000 (leb→le 1 7000000000000000000 tt) (celled .small));
+        links-small = subst (λ (x : Tally). natAbs (x .largest) ≤ 7000000000000000000) (sym (J .tally-is)) (top-small (linkTermOn ws ps) (linksOf ws) 7000000000000000000 (leb→le 1 7000000000000000000 tt) (linked .small));
+        few = subst (λ (x : Tally). n + x .place ≤ 280) (sym (J .tally-is))
+            (omega (arith, n-is, given .allowed .cells-few, given .allowed .links-few, largest-few (linkTermOn ws ps) (linksOf ws)));
+      }
+
+      place-told : {p : ℕ} → p ≡ placeOf n cells links → p ≡ largestPlace (jobOf ws) (wordAt ps) (multiplierOn ws ps)
+      place-told q =
+          q ∙ ap₂ (λ (x y : Tally). placeOf n x y) eg (J .tally-is)
+          ∙ ap (λ (k : ℕ). if ltZ (topOf (cellTermOn ws ps) (cellsOf ws)) (topOf (linkTermOn ws ps) (linksOf ws)) then k + largestOf (linkTermOn ws ps) (linksOf ws) else largestOf (cellTermOn ws ps) (cellsOf ws)) (n-is)
+          ∙ place-is (jobOf ws) (wordAt ps) (multiplierOn ws ps) some (celled .least 0 some)
+        where
+          some : 0 < cellsOf ws
+          some = omega (arith, given .allowed .cells-some)
+
+      pub judged-refuses : leZ (read g) (read t) ≡ false → {p : ℕ} → p ≡ placeOf n cells links → Refused 9 p ≡ judgedOn ws ps
+      judged-refuses e q =
+          ap (Refused 9) (place-told q)
+          ∙ ap judgedBy
           (sym
           (lt-not-le (gapOn ws ps) (jobOf ws .tolerance) (tells .past (not-le-lt g (jobOf ws .tolerance) (sym test-is ∙ e)))))

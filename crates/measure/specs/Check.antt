@@ -1,7 +1,7 @@
 -- Document 01, "Order": the check of a proposal, from two packs to its verdict: the job pack's refusals, then 6, 7 (lowest cell), 8 (lowest link), 9.
 use Prim.Native.Nat.{ℕ, zero, suc, _+_}
 use mathlib.Core.Bool.{Bool, _&&_}
-use mathlib.Core.List.{List, []}
+use mathlib.Core.List.{List}
 use lib.Dec.{ltb}
 use lib.IntN.{ℤ}
 use lib.Signed.{leZ}
@@ -15,6 +15,7 @@ use Rattle.measure.specs.declared.check.Verdict.{Verdict}
 use Rattle.measure.specs.declared.check.Verdict.the-variants.{Accepted, Refused}
 use Rattle.measure.specs.Loss.{lossOf}
 use Rattle.measure.specs.Gap.{linkSum, gapOf}
+use Rattle.measure.specs.Largest.{largestPlace}
 
 -- The lowest of the k numbers from i on at which a test fails, or the number after them.
 unfoldable pub lowestFrom : (passes : ℕ → Bool) → (i k : ℕ) → ℕ
@@ -32,9 +33,9 @@ inBox j v i = leZ (j .floor i) (v i) && leZ (v i) (j .ceiling i)
 abbrev pub holds : Job → (v : ℕ → ℤ) → (l : ℕ) → Bool
 holds j v l = leZ (linkSum j l v) (j .bound l)
 
--- "9: G above T"
+-- "9: G above T"; document 02, W-202: its place is that of the largest term of the gap
 abbrev pub judgedOf : Job → (v y : ℕ → ℤ) → Verdict
-judgedOf j v y = if leZ (gapOf j v y) (j .tolerance) then Accepted (lossOf j v) (gapOf j v y) else Refused 9 0
+judgedOf j v y = if leZ (gapOf j v y) (j .tolerance) then Accepted (lossOf j v) (gapOf j v y) else Refused 9 (largestPlace j v y)
 
 -- The verdict on a table v with multipliers y.
 unfoldable pub verdictOf : Job → (v y : ℕ → ℤ) → Verdict
@@ -61,15 +62,6 @@ verdictFor j ps = verdictOf j (valuesOf ps) (multipliersOf (j .cells) ps)
 
 abbrev pub proposalVerdict : Job → (proposal : List ℕ) → Verdict
 proposalVerdict j proposal = onRead (readProposal (j .cells) (j .links) proposal .outcome) (verdictFor j (readProposal (j .cells) (j .links) proposal .words))
-
--- The numbers of a proposal pack, read for the counts of a job pack; none where the job is refused.
-abbrev pub ifRead : Outcome → List ℤ → List ℤ
-ifRead (Done k) ws = ws
-ifRead (Refuses number place) ws = []
-
-abbrev pub proposalWords : (job proposal : List ℕ) → List ℤ
-proposalWords job proposal =
-    ifRead (readJob job .outcome) (readProposal (jobOf (readJob job .words) .cells) (jobOf (readJob job .words) .links) proposal .words)
 
 -- The check of a proposal pack against a job pack.
 abbrev pub checkOf : (job proposal : List ℕ) → Verdict

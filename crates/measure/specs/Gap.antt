@@ -5,6 +5,8 @@ use Rattle.whole.specs.Sum.{sum, coefficientOf}
 use Rattle.certificate.specs.Terms.{cellTerm}
 use Rattle.certificate.specs.Differences.{difference, returned}
 use Rattle.jobs.specs.Job.{Job}
+use Rattle.tally.specs.declared.term.Supplied.{Supplied}
+use Rattle.tally.specs.Supplied.{limit, supplied}
 use Rattle.measure.specs.Loss.{familyOf, familyAcross, acrossAt}
 
 -- The sum of the link l over a table, and the coefficient of the cell i in it, 0 where the link does not name the cell.
@@ -30,13 +32,13 @@ linkPart j y i = sum (j .links) (λ l. y l *ℤ linkCoefficient j l i)
 unfoldable pub residualOf : Job → (v y : ℕ → ℤ) → (i : ℕ) → ℤ
 residualOf j v y i = pos 2 *ℤ j .weight i *ℤ (v i -ℤ j .crude i) +ℤ smoothPart j v i +ℤ linkPart j y i
 
--- "if w = 0 or r lies outside -2,000,000,000..2,000,000,000, the box term"
-abbrev pub limit : ℕ
-limit = 2000000000
-
 -- "Cell term": the rule stands in `cellTerm`.
 abbrev pub cellTermOf : Job → (v y : ℕ → ℤ) → (i : ℕ) → ℤ
 cellTermOf j v y i = cellTerm limit (j .weight i) (residualOf j v y i) (j .floor i) (j .ceiling i) (v i)
+
+-- W-202: with what supplied it.
+abbrev pub suppliedOf : Job → (v y : ℕ → ℤ) → (i : ℕ) → Supplied
+suppliedOf j v y i = supplied (j .weight i) (residualOf j v y i) (j .floor i) (j .ceiling i) (v i)
 
 -- "Link term: multiplier times (b minus the link's sum)"
 abbrev pub linkTermOf : Job → (v y : ℕ → ℤ) → (l : ℕ) → ℤ

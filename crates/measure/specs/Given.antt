@@ -9,7 +9,8 @@ use lib.ListN.{length}
 use lib.Signed.{_≤ℤ_}
 use Rattle.jobs.specs.Words.{wordAt, countAt, cellsOf, linksOf, jobOf}
 use Rattle.jobs.specs.Allowed.{Upto, Allowed, Laid, Proposed}
-use Rattle.measure.specs.Running.{runOf}
+use Rattle.tally.specs.declared.Tally.{Tally}
+use Rattle.tally.specs.Tally.{talliedOf}
 use Rattle.measure.specs.OnWords.{inBoxOn, holdsOn, roughOn, smoothOn, linkPartOn, linkTermOn}
 
 -- The words of a job, and those of a proposal for it.
@@ -62,36 +63,6 @@ pub record Losing (ws ps : List ℤ) (n : ℕ) (rough : ℤ) : Type 0 where
   pub given : Given ws ps
   pub n-is : n ≡ cellsOf ws
   pub rough-is : rough ≡ roughOn ws ps
-
--- A residual with its box and value.
-pub record Boxed (r lo hi v : ℤ) : Type 0 where
-  pub r-small : natAbs r ≤ 7000000000000
-  pub lo-in : Upto 1000000 lo
-  pub hi-in : Upto 1000000 hi
-  pub v-in : Upto 1000000 v
-
--- A positive weight, and a residual whose square counts.
-pub record Squares (w r : ℤ) : Type 0 where
-  pub w-in : Upto 1000 w
-  pub w-some : 1 ≤ natAbs w
-  pub r-small : natAbs r ≤ 2000000000
-
-pub record CellNumbers (w r lo hi v : ℤ) : Type 0 where
-  pub w-in : Upto 1000 w
-  pub box : Boxed r lo hi v
-
--- A multiplier, a link's bound and its sum.
-pub record LinkNumbers (y b s : ℤ) : Type 0 where
-  pub y-in : Upto 1000000000 y
-  pub b-small : natAbs b ≤ 1000000000
-  pub s-small : natAbs s ≤ 40000000
-
--- A tolerance, a running total and the next term.
-pub record Settles (tolerance total t : ℤ) : Type 0 where
-  pub tolerance-in : Upto 1000000000000000 tolerance
-  pub total-least : pos 0 ≤ℤ total
-  pub total-small : natAbs total ≤ 8000000000000000000
-  pub t-small : natAbs t ≤ 7000000000000000000
 
 -- The words of a link that starts at s.
 pub record LinkAt (ws : List ℤ) (s : ℕ) : Type 0 where
@@ -162,10 +133,13 @@ pub record Boxes (ws ps : List ℤ) (n : ℕ) : Type 0 where
   pub n-is : n ≡ cellsOf ws
   pub boxes : (i : ℕ) → i < n → inBoxOn ws ps i ≡ true
 
--- A table that meets its boxes and links, with its link parts and the total of its link terms.
-pub record Judging (ws ps : List ℤ) (n : ℕ) (total : ℤ) (parts : List ℤ) : Type 0 where
+-- A table that meets its boxes and links, with its link parts; and with the tally of its link terms too.
+pub record Parted (ws ps : List ℤ) (n : ℕ) (parts : List ℤ) : Type 0 where
   pub table : Boxes ws ps n
   pub kept : (l : ℕ) → l < linksOf ws → holdsOn ws ps l ≡ true
-  pub total-is : total ≡ runOf (jobOf ws .tolerance) (pos 0) (linkTermOn ws ps) (linksOf ws)
   pub parts-room : n ≤ length parts
   pub parts-are : (i : ℕ) → i < n → wordAt parts i ≡ linkPartOn ws ps i
+
+pub record Judging (ws ps : List ℤ) (n : ℕ) (tally : Tally) (parts : List ℤ) : Type 0 where
+  pub parted : Parted ws ps n parts
+  pub tally-is : tally ≡ talliedOf (jobOf ws .tolerance) (pos 0) (linkTermOn ws ps) (linksOf ws)

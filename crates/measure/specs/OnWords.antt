@@ -6,12 +6,14 @@ use lib.IntN.{ℤ, pos, _+ℤ_, _-ℤ_, _*ℤ_}
 use Rattle.certificate.specs.Problem.{squared}
 use Rattle.certificate.specs.Terms.{cellTerm}
 use Rattle.jobs.specs.Words.{cellsOf, jobOf}
+use Rattle.tally.specs.declared.term.Supplied.{Supplied}
+use Rattle.tally.specs.Supplied.{limit, supplied}
 use Rattle.measure.specs.declared.check.Verdict.{Verdict}
 use Rattle.measure.specs.declared.links.Walked.{Walked}
 use Rattle.measure.specs.Loss.{fitOf, roughOf, lossOf}
-use Rattle.measure.specs.Gap.{limit, smoothPart, linkPart, residualOf, cellTermOf, linkTermOf, gapOf}
+use Rattle.measure.specs.Gap.{smoothPart, linkPart, residualOf, cellTermOf, linkTermOf, gapOf}
 use Rattle.measure.specs.Check.{inBox, holds, valuesOf, multipliersOf, judgedOf}
-use Rattle.measure.specs.Running.{heldLinks, partsOf, walkOf}
+use Rattle.measure.specs.Running.{heldLinks, partsOf, walkOf, metOf, walkedLinks}
 
 abbrev pub multiplierOn : (ws ps : List ℤ) → (l : ℕ) → ℤ
 multiplierOn ws ps l = multipliersOf (cellsOf ws) ps l
@@ -50,6 +52,10 @@ residualWith ws ps i part = pos 2 *ℤ jobOf ws .weight i *ℤ (valuesOf ps i -�
 abbrev pub cellTermWith : (ws ps : List ℤ) → (i : ℕ) → (r : ℤ) → ℤ
 cellTermWith ws ps i r = cellTerm limit (jobOf ws .weight i) r (jobOf ws .floor i) (jobOf ws .ceiling i) (valuesOf ps i)
 
+-- The same, with who supplied it.
+abbrev pub suppliedWith : (ws ps : List ℤ) → (i : ℕ) → (r : ℤ) → Supplied
+suppliedWith ws ps i r = supplied (jobOf ws .weight i) r (jobOf ws .floor i) (jobOf ws .ceiling i) (valuesOf ps i)
+
 abbrev pub cellTermOn : (ws ps : List ℤ) → (i : ℕ) → ℤ
 cellTermOn ws ps i = cellTermOf (jobOf ws) (valuesOf ps) (multiplierOn ws ps) i
 
@@ -71,3 +77,10 @@ partsOn ws ps k i = partsOf (jobOf ws) (multiplierOn ws ps) k i
 
 abbrev pub walkOn : (ws ps : List ℤ) → Walked
 walkOn ws ps = walkOf (jobOf ws) (valuesOf ps) (multiplierOn ws ps)
+
+-- The same after the boxes, and the links walked over.
+abbrev pub metOn : (ws ps : List ℤ) → Walked
+metOn ws ps = metOf (jobOf ws) (valuesOf ps) (multiplierOn ws ps)
+
+abbrev pub walkedOn : (ws ps : List ℤ) → ℕ
+walkedOn ws ps = walkedLinks (jobOf ws) (valuesOf ps)

@@ -1,35 +1,25 @@
--- What the steps inside the check come to: parts that are added to a lent list, and the running total that is settled once it passes the tolerance.
-use Prim.Native.Nat.{ℕ, zero, suc, _+_, _*_}
+-- What the steps inside the check come to: parts that are added to a lent list, and what a walk over the links answers.
+use Prim.Native.Nat.{ℕ, suc, _+_, _*_}
 use mathlib.Core.Path.{_≡_}
+use mathlib.Core.Bool.{Bool}
 use mathlib.Core.List.{List}
 use lib.Dec.{ltb}
 use lib.IntN.{ℤ, pos, _+ℤ_, _*ℤ_}
 use lib.ListN.{length}
-use lib.Signed.{leZ}
-use Rattle.numbers.specs.Choice.{if_then_else_}
 use Rattle.whole.specs.Sum.{sum, coefficientOf}
+use Rattle.numbers.specs.Choice.{if_then_else_}
 use Rattle.jobs.specs.Job.{Job}
 use Rattle.jobs.specs.Words.{wordAt, countAt}
-use Rattle.measure.specs.declared.check.Verdict.{Verdict}
-use Rattle.measure.specs.declared.check.Verdict.the-variants.{Refused}
+use Rattle.tally.specs.Tally.{talliedOf}
 use Rattle.measure.specs.declared.links.Walked.{Walked}
-use Rattle.measure.specs.declared.links.Walked.the-variants.{Broken, Held}
+use Rattle.measure.specs.declared.links.Walked.the-variants.{Unmet, Held}
 use Rattle.measure.specs.Gap.{linkCoefficient, linkTermOf}
-use Rattle.measure.specs.Check.{lowestFailing, holds}
+use Rattle.measure.specs.Check.{lowestFailing, inBox, holds}
 
 -- A number is added to each word of a list.
 pub record Added (part : ℕ → ℤ) (before after : List ℤ) : Type 0 where
   pub long : length after ≡ length before
   pub at : (i : ℕ) → wordAt after i ≡ wordAt before i +ℤ part i
-
--- One term more, unless the total is past the tolerance T already.
-abbrev pub settledOf : (T total t : ℤ) → ℤ
-settledOf T total t = if leZ total T then total +ℤ t else total
-
--- The settled total of n terms, from a start.
-unfoldable pub runOf : (T start : ℤ) → (t : ℕ → ℤ) → (n : ℕ) → ℤ
-runOf T start t zero = start
-runOf T start t (suc n) = settledOf T (runOf T start t n) (t n)
 
 -- By the words of a link that starts at s: its sum, its bound, and what it adds to the cell i with the multiplier y.
 unfoldable pub sumAt : List ℤ → (s : ℕ) → (v : ℕ → ℤ) → ℤ
@@ -53,11 +43,16 @@ heldLinks j v = lowestFailing (holds j v) (j .links)
 abbrev pub partsOf : Job → (y : ℕ → ℤ) → (k i : ℕ) → ℤ
 partsOf j y k i = sum k (λ l. y l *ℤ linkCoefficient j l i)
 
--- .. what a walk over the links answers ..
+-- .. what a walk over the links answers, 8 at the lowest broken one ..
 unfoldable pub walkOf : Job → (v y : ℕ → ℤ) → Walked
-walkOf j v y = if ltb (heldLinks j v) (j .links) then Broken (heldLinks j v) else Held (runOf (j .tolerance) (pos 0) (linkTermOf j v y) (j .links))
+walkOf j v y = if ltb (heldLinks j v) (j .links) then Unmet 8 (heldLinks j v) else Held (talliedOf (j .tolerance) (pos 0) (linkTermOf j v y) (j .links))
 
--- .. and the verdict that the answer leads to: 8 at the lowest broken link, or the one on a table that keeps its links.
-abbrev pub onWalked : Walked → (kept : Verdict) → Verdict
-onWalked (Broken l) kept = Refused 8 l
-onWalked (Held total) kept = kept
+-- .. and what it answers after the boxes, 7 at the lowest cell outside its own, and how many links it has gone over then.
+abbrev pub outside : Job → (v : ℕ → ℤ) → Bool
+outside j v = ltb (lowestFailing (inBox j v) (j .cells)) (j .cells)
+
+unfoldable pub metOf : Job → (v y : ℕ → ℤ) → Walked
+metOf j v y = if outside j v then Unmet 7 (lowestFailing (inBox j v) (j .cells)) else walkOf j v y
+
+unfoldable pub walkedLinks : Job → (v : ℕ → ℤ) → ℕ
+walkedLinks j v = if outside j v then 0 else heldLinks j v

@@ -12,16 +12,17 @@ use Rattle.jobs.specs.Words.{wordAt, countAt, cellsOf, headWords, linksOf, jobO
 use Rattle.jobs.specs.Packs.{readJob}
 use Rattle.measure.specs.declared.check.Verdict.{Verdict}
 use Rattle.measure.specs.declared.check.Verdict.the-variants.{Accepted, Refused}
-use Rattle.measure.specs.Check.{proposalWords, checkOf}
+use Rattle.measure.specs.Check.{checkOf}
+use Rattle.measure.specs.Opening.{proposalWords}
 use Rattle.checked.specs.declared.Answer.{Answer}
-use Rattle.slots.specs.Slots.{slotOf}
 use Rattle.checked.specs.Checked.{takenFrom, checkedOf, valuesOf, multipliersOf}
 use Rattle.checked.specs.Answers.{accepted, answerOf}
-use Rattle.shelf.specs.Shelf.{Layout, keptOn, keptShelf, keepReply}
 use Rattle.checked.specs.Given.{Given}
-use Rattle.shelf.specs.Given.{Rated, keptFrom, tableKept}
 use Rattle.checked.proofs.Values.{length-map}
 use Rattle.checked.proofs.Packs.{packs-name, packs-multiply}
+use Rattle.slots.specs.Slots.{slotOf}
+use Rattle.shelf.specs.Shelf.{Layout, keptOn, keptShelf, keepReply}
+use Rattle.shelf.specs.Given.{Rated, keptFrom, tableKept}
 
 -- ---- the numbers of a slot
 pub numbers-part : (a n : ℕ) (rates : List ℤ) (rest values : List ℕ) → a + n ≤ length rates → values ≡ takenFrom a n rates ++ rest → take n values ≡ takenFrom a n rates

@@ -5,11 +5,11 @@ use mir.Facts.{toZ-ofZ}
 use mir.Syntax.{w64}
 use Rattle.jobs.specs.Words.{cellsOf}
 use Rattle.jobs.specs.Packs.{readJob}
-use Rattle.measure.specs.Check.{proposalWords}
-use Rattle.checked.proofs.Values.{lent-length}
+use Rattle.measure.specs.Opening.{proposalWords}
+use Rattle.measure.proofs.Packed.{lent-length}
 use Rattle.checked.proofs.Packs.{given-packs}
 use Rattle.line.proofs.Stores.{puts-same}
-use Rattle.line.proofs.Tables.{tableLine, accepted-line, refused-line}
+use Rattle.line.proofs.Tables.{tableLine, accepted-line, refused-lines}
 use borrow.Author.Needs.{needs}
 use Rattle.line.proofs.put_check.Statement.{statement}
 use Rattle.line.proofs.put_check.Tie as tie
@@ -60,7 +60,7 @@ same-length-2 c = search needs
 returns-2 : tie.Need-returns-2
 returns-2 c = let told = c .before .before .before .before .before .verdict2 .given in
     let a = c .before .before .before .before .before .before .before .before .before .before .before .before .before .args in
-    puts-same (refused-line (a .job .now) (a .proposal .now) (told .0 .0) (told .0 .1 .0) (sym (c .before .before .before .before .before .before .before .check-into .ensures .0) ∙ told .1)) (c .before .before .put-two .ensures)
+    puts-same (sym (refused-lines (a .job .now) (a .proposal .now) (told .0 .0) (told .0 .1 .0) (sym (c .before .before .before .before .before .before .before .check-into .ensures .0) ∙ told .1))) (c .before .before .put-two .ensures)
 
 pub put-check-spec : {M : Type 1} → statement M
 put-check-spec =

@@ -1,49 +1,42 @@
--- A job that was read is allowed and laid, and its words are the first k.
-use Rattle.measure.proofs.Packed.{job-answer, job-asked, job-refused, job-left, refused-left}
+-- What was read of both packs is what the check goes by.
+use mathlib.Core.Path.{_≡_, sym, _∙_}
 use lib.ListN.{length}
-use mathlib.Core.Path.{_≡_}
+use Rattle.measure.proofs.Packed.{job-room, parts-checked, parts-given, proposal-room, unread-refused}
 use borrow.Author.Needs.{needs}
 use Rattle.measure.proofs.check.check_into.Statement.{statement}
 use Rattle.measure.proofs.check.check_into.Tie as tie
+use Rattle.measure.proofs.check.check_into.Reads as reads
+use Rattle.measure.proofs.check.check_into.Lts as lts
+use Rattle.measure.proofs.check.check_parts.Reads as check-parts-reads
+use Rattle.measure.proofs.opening.open_both.Reads as open-both-reads
 
-read-requires : tie.Need-read-requires
-read-requires c κs = search needs
+open-both-requires : tie.Need-open-both-requires
+open-both-requires c κs = search needs
 
-enum-known-read : tie.Need-enum-known-read
-enum-known-read c = search needs
+enum-known-opened : tie.Need-enum-known-opened
+enum-known-opened c = search needs
 
-check-part-requires : tie.Need-check-part-requires
-check-part-requires c κs = let s = c .before .before .before .before .before .before .before .before .before .before in
-    let w : length (s .args .words .now) ≡ 2092 = search needs in
-    let a = job-asked (s .args .job .now) (s .args .proposal .now) (s .args .words .now) w (c .before .before .before .before .before .before .read .ensures .0) (c .before .before .before .before .before .before .read .ensures .1) (c .before .before .before .before .read2 .given .1) in
-    (a .0, a .1, search needs)
+check-parts-requires : tie.Need-check-parts-requires
+check-parts-requires c κs = let w : length (c .before .before .before .before .before .before .before .open-both .last .1 .1 .0) ≡ 2092 = search needs in let v : length (c .before .before .before .before .before .before .before .open-both .last .1 .1 .1 .0) ≡ 280 = search needs in
+    (job-room (c .before .before .before .before .before .before .before .before .before .before .before .before .args .job .now) (c .before .before .before .before .before .before .before .before .before .before .before .before .args .proposal .now) (sym (c .before .before .before .before .before .before .before .open-both .ensures .0) ∙ c .before .before .before .before .before .opened .given .1) w (c .before .before .before .before .before .before .before .before .before .before .before .before .args .words .now) (c .before .before .before .before .before .before .before .open-both .ensures .1) v (c .before .before .before .before .before .before .before .before .before .before .before .before .args .values .now) (c .before .before .before .before .before .before .before .open-both .ensures .2), proposal-room (c .before .before .before .before .before .before .before .before .before .before .before .before .args .job .now) (c .before .before .before .before .before .before .before .before .before .before .before .before .args .proposal .now) (sym (c .before .before .before .before .before .before .before .open-both .ensures .0) ∙ c .before .before .before .before .before .opened .given .1) w (c .before .before .before .before .before .before .before .before .before .before .before .before .args .words .now) (c .before .before .before .before .before .before .before .open-both .ensures .1) v (c .before .before .before .before .before .before .before .before .before .before .before .before .args .values .now) (c .before .before .before .before .before .before .before .open-both .ensures .2), parts-given (c .before .before .before .before .before .before .before .before .before .before .before .before .args .job .now) (c .before .before .before .before .before .before .before .before .before .before .before .before .args .proposal .now) (sym (c .before .before .before .before .before .before .before .open-both .ensures .0) ∙ c .before .before .before .before .before .opened .given .1) w (c .before .before .before .before .before .before .before .before .before .before .before .before .args .words .now) (c .before .before .before .before .before .before .before .open-both .ensures .1) v (c .before .before .before .before .before .before .before .before .before .before .before .before .args .values .now) (c .before .before .before .before .before .before .before .open-both .ensures .2))
 
-enum-known-read-2 : tie.Need-enum-known-read-2
-enum-known-read-2 c = search needs
+enum-known-opened-2 : tie.Need-enum-known-opened-2
+enum-known-opened-2 c = search needs
 
 returns : tie.Need-returns
-returns c = let s = c .before .before .before .before .before .before .before .before .before .before .before in
-    let w : length (s .args .words .now) ≡ 2092 = search needs in (
-      job-answer (s .args .job .now) (s .args .proposal .now) (s .args .words .now) w (c .before .before .before .before .before .before .before .read .ensures .0) (c .before .before .before .before .before .before .before .read .ensures .1) (c .before .before .before .before .before .read2 .given .1) (c .check-part .ensures .0),
-      c .before .before .before .before .before .before .before .read .ensures .1,
-      job-left (s .args .job .now) (s .args .proposal .now) (s .args .words .now) w (c .before .before .before .before .before .before .before .read .ensures .0) (c .before .before .before .before .before .before .before .read .ensures .1) (c .before .before .before .before .before .read2 .given .1) (s .args .values .now) (c .check-part .ensures .1),
-    )
+returns c = let w : length (c .before .before .before .before .before .before .before .before .open-both .last .1 .1 .0) ≡ 2092 = search needs in let v : length (c .before .before .before .before .before .before .before .before .open-both .last .1 .1 .1 .0) ≡ 280 = search needs in
+    (parts-checked (c .before .before .before .before .before .before .before .before .before .before .before .before .before .args .job .now) (c .before .before .before .before .before .before .before .before .before .before .before .before .before .args .proposal .now) (sym (c .before .before .before .before .before .before .before .before .open-both .ensures .0) ∙ c .before .before .before .before .before .before .opened .given .1) w (c .before .before .before .before .before .before .before .before .before .before .before .before .before .args .words .now) (c .before .before .before .before .before .before .before .before .open-both .ensures .1) v (c .before .before .before .before .before .before .before .before .before .before .before .before .before .args .values .now) (c .before .before .before .before .before .before .before .before .open-both .ensures .2) (c .check-parts .ensures), c .before .before .before .before .before .before .before .before .open-both .ensures .1, c .before .before .before .before .before .before .before .before .open-both .ensures .2)
 
 returns-2 : tie.Need-returns-2
-returns-2 c = let s = c .before .before .before .before .before .before .before in
-    let w : length (s .args .words .now) ≡ 2092 = search needs in (
-      job-refused (s .args .job .now) (s .args .proposal .now) (s .args .words .now) w (c .before .before .before .read .ensures .0) (c .before .before .before .read .ensures .1) (c .before .read3 .given .1),
-      c .before .before .before .read .ensures .1,
-      refused-left (s .args .job .now) (s .args .proposal .now) (s .args .words .now) w (c .before .before .before .read .ensures .0) (c .before .before .before .read .ensures .1) (c .before .read3 .given .1) (s .args .values .now),
-    )
+returns-2 c = (unread-refused (c .before .before .before .before .before .before .before .before .args .job .now) (c .before .before .before .before .before .before .before .before .args .proposal .now) (sym (c .before .before .before .open-both .ensures .0) ∙ c .before .opened2 .given .1), c .before .before .before .open-both .ensures .1, c .before .before .before .open-both .ensures .2)
 
 pub check-into-spec : {M : Type 1} → statement M
 check-into-spec =
     tie.close
     (tie.spec
-    read-requires
-    enum-known-read
-    check-part-requires
-    enum-known-read-2
+    open-both-requires
+    enum-known-opened
+    check-parts-requires
+    enum-known-opened-2
     returns
     returns-2)

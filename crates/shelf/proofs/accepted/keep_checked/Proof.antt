@@ -4,11 +4,11 @@ use lib.IntN.{ℤ, natAbs}
 use mir.Facts.{toZ-ofZ}
 use mir.Syntax.{w64}
 use Rattle.jobs.specs.Packs.{readJob}
-use Rattle.measure.specs.Check.{proposalWords}
+use Rattle.measure.specs.Opening.{proposalWords}
+use Rattle.measure.proofs.Packed.{lent-length}
 use Rattle.checked.specs.declared.Answer.{Answer}
-use Rattle.shelf.specs.Given.{tableKept}
-use Rattle.checked.proofs.Values.{lent-length}
 use Rattle.checked.proofs.Packs.{given-packs}
+use Rattle.shelf.specs.Given.{tableKept}
 use Rattle.shelf.specs.Shelf.{layoutIn}
 use Rattle.shelf.proofs.Packs.{kept-packs, refused-packs}
 use borrow.Author.Needs.{needs}

@@ -1,12 +1,13 @@
--- The scaled loss of a table X / d, exactly: it is d²(F - G) and what is left over by the cells, the forms and the links (`expansion`). With
--- δ = X - d v, every sum at X is taken apart into a sum at v and one at δ.
+-- The scaled loss of a table X / d, exactly. With δ = X - d v, every sum at X is taken apart into a sum at v and one at δ: so it is d²F, d times the slope
+-- of the loss at v along δ, and the farness of δ (`loss-apart`); or d²(F - G) and what is left over by the cells, the forms and the links (`expansion`).
 use mathlib.Core.Path.{_≡_, sym, ap, ap₂, _∙_}
 use Prim.Native.Nat.{ℕ}
 use lib.IntN.{ℤ, pos, _+ℤ_, _-ℤ_, _*ℤ_}
 use Rattle.whole.specs.Sum.{sum}
 use Rattle.whole.proofs.Solve.{num, _⊕_, _⊖_, _⊗_, _≗_, ring}
 use Rattle.whole.proofs.Sums.{sum-ext, sum-+, sum--, sum-*l, sum-adjoint}
-use Rattle.certificate.specs.Problem.{Problem, squared, form, link, loss, scaledLoss, fitPart, smoothPart, linkPart, residual, linkTerm, gap}
+use Rattle.certificate.specs.Problem.{Problem, squared, form, link, rough, loss, scaledLoss, fitPart, smoothPart, linkPart, residual, linkTerm, gap}
+use Rattle.certificate.specs.Far.{offBy, farness}
 use Rattle.certificate.proofs.Cell.{excess}
 
 -- Σ (k f i + (d g i + h i)) = k Σ f + (d Σ g + Σ h)
@@ -15,12 +16,16 @@ three n k d f g h =
     sum-+ n (λ i. k *ℤ f i) (λ i. d *ℤ g i +ℤ h i)
     ∙ ap₂ _+ℤ_ (sum-*l n k f) (sum-+ n (λ i. d *ℤ g i) h ∙ ap (λ (x : ℤ). x +ℤ sum n h) (sum-*l n d g))
 
+-- the slope of the loss at v along δ
+abbrev pub slope : Problem → (v δ : ℕ → ℤ) → ℤ
+slope P v δ = sum (P .n) (λ i. fitPart P v i *ℤ δ i) +ℤ sum (P .n) (λ i. smoothPart P v i *ℤ δ i)
+
 module _ (P : Problem) (v : ℕ → ℤ) (d : ℤ) (X : ℕ → ℤ) where
   abbrev δ : ℕ → ℤ
-  δ i = X i -ℤ d *ℤ v i
+  δ = offBy d X v
 
   -- a form or a link at X
-  apart : (k : ℕ → ℤ) → sum (P .n) (λ i. k i *ℤ X i) ≡ sum (P .n) (λ i. k i *ℤ δ i) +ℤ d *ℤ sum (P .n) (λ i. k i *ℤ v i)
+  pub apart : (k : ℕ → ℤ) → sum (P .n) (λ i. k i *ℤ X i) ≡ sum (P .n) (λ i. k i *ℤ δ i) +ℤ d *ℤ sum (P .n) (λ i. k i *ℤ v i)
   apart k =
       sum-ext (P .n) (λ i. ring 4 (λ k x d v. k ⊗ x ≗ k ⊗ (x ⊖ d ⊗ v) ⊕ d ⊗ (k ⊗ v)) tt (k i) (X i) d (v i))
       ∙ sum-+ (P .n) (λ i. k i *ℤ δ i) (λ i. d *ℤ (k i *ℤ v i))
@@ -41,9 +46,7 @@ module _ (P : Problem) (v : ℕ → ℤ) (d : ℤ) (X : ℕ → ℤ) where
       ∙ three (P .n) (d *ℤ d) d (λ i. P .w i *ℤ squared (v i -ℤ P .u i)) (λ i. fitPart P v i *ℤ δ i) (λ i. P .w i *ℤ squared (δ i))
 
   -- the smoothness at X
-  smooth-apart : sum (P .m) (λ f. P .κ f *ℤ squared (form P f X))
-      ≡ d *ℤ d *ℤ sum (P .m) (λ f. P .κ f *ℤ squared (form P f v))
-      +ℤ (d *ℤ sum (P .n) (λ i. smoothPart P v i *ℤ δ i) +ℤ sum (P .m) (λ f. P .κ f *ℤ squared (form P f δ)))
+  smooth-apart : rough P X ≡ d *ℤ d *ℤ rough P v +ℤ (d *ℤ sum (P .n) (λ i. smoothPart P v i *ℤ δ i) +ℤ rough P δ)
   smooth-apart =
       sum-ext (P .m)
       (λ f.
@@ -51,8 +54,22 @@ module _ (P : Problem) (v : ℕ → ℤ) (d : ℤ) (X : ℕ → ℤ) where
       ∙ ring 4 (λ k e v d. k ⊗ ((e ⊕ d ⊗ v) ⊗ (e ⊕ d ⊗ v)) ≗ d ⊗ d ⊗ (k ⊗ (v ⊗ v)) ⊕ (d ⊗ (num 2 ⊗ k ⊗ v ⊗ e) ⊕ k ⊗ (e ⊗ e))) tt
       (P .κ f) (form P f δ) (form P f v) d)
       ∙ three (P .m) (d *ℤ d) d (λ f. P .κ f *ℤ squared (form P f v)) (λ f. pos 2 *ℤ P .κ f *ℤ form P f v *ℤ form P f δ) (λ f. P .κ f *ℤ squared (form P f δ))
-      ∙ ap (λ (x : ℤ). d *ℤ d *ℤ sum (P .m) (λ f. P .κ f *ℤ squared (form P f v)) +ℤ (d *ℤ x +ℤ sum (P .m) (λ f. P .κ f *ℤ squared (form P f δ))))
-      (sum-adjoint (P .n) (P .m) (λ f. pos 2 *ℤ P .κ f *ℤ form P f v) (P .a) δ)
+      ∙ ap (λ (x : ℤ). d *ℤ d *ℤ rough P v +ℤ (d *ℤ x +ℤ rough P δ)) (sum-adjoint (P .n) (P .m) (λ f. pos 2 *ℤ P .κ f *ℤ form P f v) (P .a) δ)
+
+  -- the loss at X
+  pub loss-apart : scaledLoss P d X ≡ d *ℤ d *ℤ loss P v +ℤ (d *ℤ slope P v δ +ℤ farness P δ)
+  loss-apart =
+      ap₂ _+ℤ_ fit-apart smooth-apart
+      ∙ ring 7
+      (λ d a b p q w r. d ⊗ d ⊗ a ⊕ (d ⊗ p ⊕ w) ⊕ (d ⊗ d ⊗ b ⊕ (d ⊗ q ⊕ r)) ≗ d ⊗ d ⊗ (a ⊕ b) ⊕ (d ⊗ (p ⊕ q) ⊕ (w ⊕ r)))
+      tt
+      d
+      (sum (P .n) (λ i. P .w i *ℤ squared (v i -ℤ P .u i)))
+      (rough P v)
+      (sum (P .n) (λ i. fitPart P v i *ℤ δ i))
+      (sum (P .n) (λ i. smoothPart P v i *ℤ δ i))
+      (sum (P .n) (λ i. P .w i *ℤ squared (δ i)))
+      (rough P δ)
 
   module _ (y t : ℕ → ℤ) where
     -- what is left over by the cells, the forms and the links
@@ -60,7 +77,7 @@ module _ (P : Problem) (v : ℕ → ℤ) (d : ℤ) (X : ℕ → ℤ) where
     overCells = sum (P .n) (λ i. excess (P .w i) (residual P v y i) (v i) (t i) d (X i))
 
     abbrev pub overForms : ℤ
-    overForms = sum (P .m) (λ f. P .κ f *ℤ squared (form P f δ))
+    overForms = rough P δ
 
     abbrev pub overLinks : ℤ
     overLinks = sum (P .p) (λ j. y j *ℤ (P .b j *ℤ d -ℤ link P j X))
@@ -87,15 +104,13 @@ module _ (P : Problem) (v : ℕ → ℤ) (d : ℤ) (X : ℕ → ℤ) where
 
     pub expansion : scaledLoss P d X ≡ d *ℤ d *ℤ (loss P v -ℤ gap P v y t) +ℤ (overCells +ℤ (overForms +ℤ d *ℤ overLinks))
     expansion =
-        ap₂ _+ℤ_ fit-apart smooth-apart
-        ∙ ring 10
-        (λ d a b t y q₁ q₂ q₃ w r.
-        d ⊗ d ⊗ a ⊕ (d ⊗ q₁ ⊕ w) ⊕ (d ⊗ d ⊗ b ⊕ (d ⊗ q₂ ⊕ r))
-        ≗ d ⊗ d ⊗ (a ⊕ b ⊖ (t ⊕ y)) ⊕ (d ⊗ d ⊗ t ⊕ (d ⊗ (q₁ ⊕ q₂ ⊕ q₃) ⊕ w) ⊕ (r ⊕ d ⊗ (d ⊗ y ⊖ q₃))))
+        loss-apart
+        ∙ ring 9
+        (λ d f t y p q c w r.
+        d ⊗ d ⊗ f ⊕ (d ⊗ (p ⊕ q) ⊕ (w ⊕ r)) ≗ d ⊗ d ⊗ (f ⊖ (t ⊕ y)) ⊕ (d ⊗ d ⊗ t ⊕ (d ⊗ (p ⊕ q ⊕ c) ⊕ w) ⊕ (r ⊕ d ⊗ (d ⊗ y ⊖ c))))
         tt
         d
-        (sum (P .n) (λ i. P .w i *ℤ squared (v i -ℤ P .u i)))
-        (sum (P .m) (λ f. P .κ f *ℤ squared (form P f v)))
+        (loss P v)
         (sum (P .n) t)
         (sum (P .p) (linkTerm P v y))
         (sum (P .n) (λ i. fitPart P v i *ℤ δ i))

@@ -5,4 +5,5 @@ pub mod Certificate
 pub mod Terms
 pub mod Differences
 pub mod Families
+pub mod Far
 pub mod Worked

@@ -53,7 +53,7 @@ box-nonneg (negsuc r) lo hi v h k = *ℤ-nonneg (pos-nonneg (suc r)) (≤ℤ-sub
 
 -- ---- the square term
 
-squared-natAbs : (r : ℤ) → squared r ≡ pos (natAbs r * natAbs r)
+pub squared-natAbs : (r : ℤ) → squared r ≡ pos (natAbs r * natAbs r)
 squared-natAbs (pos n) = refl
 squared-natAbs (negsuc n) = refl
 

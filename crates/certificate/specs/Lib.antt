@@ -2,4 +2,5 @@
 pub mod Problem
 pub mod Terms
 pub mod Differences
+pub mod Far
 pub mod Promises

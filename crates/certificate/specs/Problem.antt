@@ -31,13 +31,17 @@ form P f x = sum (P .n) (λ i. P .a f i *ℤ x i)
 abbrev pub link : Problem → ℕ → (ℕ → ℤ) → ℤ
 link P j x = sum (P .n) (λ i. P .c j i *ℤ x i)
 
+-- how rough a table x is: the constants times the squares of its forms
+abbrev pub rough : Problem → (x : ℕ → ℤ) → ℤ
+rough P x = sum (P .m) (λ f. P .κ f *ℤ squared (form P f x))
+
 -- the loss F of a table v
 abbrev pub loss : Problem → (ℕ → ℤ) → ℤ
-loss P v = sum (P .n) (λ i. P .w i *ℤ squared (v i -ℤ P .u i)) +ℤ sum (P .m) (λ f. P .κ f *ℤ squared (form P f v))
+loss P v = sum (P .n) (λ i. P .w i *ℤ squared (v i -ℤ P .u i)) +ℤ rough P v
 
 -- the loss of the table X / d, times d²
 abbrev pub scaledLoss : Problem → ℤ → (ℕ → ℤ) → ℤ
-scaledLoss P d X = sum (P .n) (λ i. P .w i *ℤ squared (X i -ℤ d *ℤ P .u i)) +ℤ sum (P .m) (λ f. P .κ f *ℤ squared (form P f X))
+scaledLoss P d X = sum (P .n) (λ i. P .w i *ℤ squared (X i -ℤ d *ℤ P .u i)) +ℤ rough P X
 
 -- the residual r of the cell i at a table v with multipliers y, in three parts
 abbrev pub fitPart : Problem → (v : ℕ → ℤ) → ℕ → ℤ

@@ -8,6 +8,7 @@ use Rattle.whole.specs.Sum.{sum}
 use Rattle.certificate.specs.Problem.{Problem, loss, scaledLoss, linkTerm, gap, Meets}
 use Rattle.certificate.specs.Terms.{boxTerm, cellTerm, terms, Covers, NotNegative, Certified}
 use Rattle.certificate.specs.Differences.{Family, Inside, Consecutive, difference, coefficient, returned, usedWith, gathered}
+use Rattle.certificate.specs.Far.{offBy, farness, Reaches}
 
 -- ---- the certificate
 
@@ -44,6 +45,22 @@ ScaledByOne = (P : Problem) (v : ℕ → ℤ) → scaledLoss P (pos 1) v ≡ los
 
 abbrev pub ScaledAlike : Type 0
 ScaledAlike = (P : Problem) (k d : ℤ) (X : ℕ → ℤ) → scaledLoss P (k *ℤ d) (λ i. k *ℤ X i) ≡ k *ℤ k *ℤ scaledLoss P d X
+
+-- ---- how far off a rate can be
+
+-- W-208: a table that meets the problem and whose loss is not above that of a certified table v, which meets it too, is off from v by at most 4G, which is
+-- 4G·d² for X and d·v.
+abbrev pub NoneFar : Type 0
+NoneFar =
+    (P : Problem) (v y t : ℕ → ℤ) → Certified P v y t → Meets P (pos 1) v → (d : ℤ) (X : ℕ → ℤ) → pos 1 ≤ℤ d → Meets P d X
+    → scaledLoss P d X ≤ℤ (d *ℤ d *ℤ loss P v) → farness P (offBy d X v) ≤ℤ (pos 4 *ℤ gap P v y t *ℤ (d *ℤ d))
+
+-- Then none of its rates is off by more than reaches.
+abbrev pub NoRateFar : Type 0
+NoRateFar =
+    (P : Problem) (v y : ℕ → ℤ) → NotNegative P y → (G d : ℤ) (X : ℕ → ℤ) → pos 1 ≤ℤ d → Meets P d X
+    → farness P (offBy d X v) ≤ℤ (pos 4 *ℤ G *ℤ (d *ℤ d))
+    → (i : ℕ) → i < P .n → (r : ℕ) → Reaches (P .w i) (P .lo i) (P .hi i) (v i) G r → pos (natAbs (offBy d X v i)) ≤ℤ (d *ℤ pos r)
 
 -- ---- differences
 

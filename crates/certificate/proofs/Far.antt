@@ -12,7 +12,7 @@ use Rattle.whole.specs.Sum.{sum}
 use Rattle.whole.proofs.Solve.{num, _⊕_, _⊖_, _⊗_, _≗_, ring}
 use Rattle.whole.proofs.Order.{≤ℤ-trans, ≤ℤ-by, ≤ℤ-of-mul, nat-of, *ℤ-nonneg, sq-nonneg, pos-nonneg, pos-mono, pos-le}
 use Rattle.whole.proofs.Inequality.{_⊑_, _⇒_, _by_, hyp, nat, sqr, _⊞_, _⊠_, ineq}
-use Rattle.whole.proofs.Sums.{sum-suc, sum-nonneg}
+use Rattle.whole.proofs.Sums.{sum-suc, sum-cong, sum-ext, sum-nonneg}
 use Rattle.whole.proofs.Parts.{sum-longer}
 use Rattle.certificate.specs.Problem.{Problem, squared, form, link, rough, loss, scaledLoss, gap, Meets}
 use Rattle.certificate.specs.Far.{offBy, farness, Reaches, by-weight, by-box}
@@ -73,6 +73,12 @@ none-far P v y t C O d X h M no-worse =
     off-by P v d X (gap P v y t) no-worse
     (lower-bound P v y t C (twice P v d X) (middle P v d X) (ineq 1 (λ d. num 1 ⊑ d ⇒ num 1 ⊑ num 2 ⊗ d by nat 2 ⊠ hyp 0 ⊞ nat 1) tt d h)
     (middle-meets P v d X (≤ℤ-trans (pos-nonneg 1) h) O M))
+
+-- differences beyond the cells do not count
+pub farness-below : (P : Problem) {δ ε : ℕ → ℤ} → ((i : ℕ) → i < P .n → δ i ≡ ε i) → farness P δ ≡ farness P ε
+farness-below P same =
+    ap₂ _+ℤ_ (sum-cong (P .n) (λ i h. ap (λ (x : ℤ). P .w i *ℤ squared x) (same i h)))
+    (sum-ext (P .m) (λ f. ap (λ (x : ℤ). P .κ f *ℤ squared x) (sum-cong (P .n) (λ i h. ap (λ (x : ℤ). P .a f i *ℤ x) (same i h)))))
 
 -- ---- a rate by itself
 

@@ -43,9 +43,10 @@ use Rattle.shelf.proofs.Rows.{rowed-lawful}
 use Rattle.shelf.proofs.Judged.{signed-at, judged-given, all-allowed}
 use Rattle.bench.specs.Answers.{answerWords}
 use Rattle.claims.specs.Read.{jobIn, proposalIn, valuesIn}
-use Rattle.claims.specs.BenchPromises.{ToldFetched}
+use Rattle.claims.specs.BenchPromises.{ToldBest, ToldFetched}
 use Rattle.claims.proofs.Accepted.{no-other-refusal}
-use Rattle.claims.proofs.Told.{Handed, handed-told}
+use Rattle.claims.proofs.Far.{close-same}
+use Rattle.claims.proofs.Told.{told, Handed, handed-told}
 
 -- ---- where the verdict on kept numbers has the number 0, every one of them is allowed
 record AllAllowed (first most : ℕ) (numbers : List ℕ) (later : Verdict) : Type 0 where
@@ -219,18 +220,18 @@ fetch-told shelf job out answered left n w l =
     let r = said shelf (own (fetch job (length out))) in
     let g = any-behind shelf job (length out) n in
     let h = g .handed in
+    let F = r .answer .loss in
+    let G = r .answer .gap in
+    let t : ToldBest job (g .proposal) (jobIn job .cells) answered =
+    told job (g .proposal) (jobIn job .cells) F G answered (w ∙ ap₂ (λ (a b : ℕ). a ∷ b ∷ F ∷ G ∷ []) n (h .place ∙ g .count)) (h .accepted) in
+    let same : (i : ℕ) → i < jobIn job .cells → pos (getD left i 0) ≡ valuesIn job (g .proposal) i = λ i k.
+    ap (λ (xs : List ℕ). pos (getD xs i 0)) (l ∙ ap (overwritten out) (h .given))
+    ∙ ap pos (List·getD-append (g .kept) (drop (length (g .kept)) out) 0 i (omega (arith, g .count))) ∙ g .values i k in
     record {
       proposal = g .proposal;
-      told = record {
-        F = r .answer .loss;
-        G = r .answer .gap;
-        words = w ∙ ap₂ (λ (a b : ℕ). a ∷ b ∷ r .answer .loss ∷ r .answer .gap ∷ []) n (h .place ∙ g .count);
-        accepted = h .accepted;
-        best = h .best;
-      };
+      told = t;
       room = subst (λ (xs : List ℕ). jobIn job .cells ≤ length xs) (sym (l ∙ ap (overwritten out) (h .given)))
           (omega (arith, g .count, length-append (g .kept) (drop (length (g .kept)) out)));
-      values = λ i k.
-          ap (λ (xs : List ℕ). pos (getD xs i 0)) (l ∙ ap (overwritten out) (h .given))
-          ∙ ap pos (List·getD-append (g .kept) (drop (length (g .kept)) out) 0 i (omega (arith, g .count))) ∙ g .values i k;
+      values = same;
+      close = close-same (jobIn job) (valuesIn job (g .proposal)) (λ i. pos (getD left i 0)) same (pos (t .F)) (pos (t .G)) (t .close);
     }

@@ -32,6 +32,8 @@ use Rattle.claims.specs.Lists.{Table, tableFrom, tableFor, isOf, fetched
 use Rattle.claims.specs.LastKept.{ClearedWith, shelfAfter, allAfter, held}
 use Rattle.claims.specs.Fetched.{Sent, IsAccepted}
 use Rattle.claims.proofs.Accepted.{no-other-refusal}
+use Rattle.claims.proofs.Best.{best}
+use Rattle.claims.proofs.Far.{accepted-close}
 use Rattle.claims.proofs.Told.{handed-told}
 use Rattle.claims.proofs.Tables.{All, all-kept, all-removed}
 use Rattle.claims.proofs.AsChecked.{value-kept, same-proposal, fetched-checked, counts-refused}
@@ -142,7 +144,8 @@ module _ (calls : List Call) (job : List ℕ) (room : ℕ) (reads : Reads (readJ
         values = λ i k.
             ap (λ (xs : List ℕ). pos (getD xs i 0)) (h .given) ∙ value-kept old proposal yes i (omega arith)
             ∙ sym (ap (λ (r : Ran). wordAt (r .words) i) (same-proposal old proposal yes job reads ec el));
-        best = h .best;
+        best = best job proposal _ _ (h .accepted);
+        close = accepted-close job proposal _ _ (h .accepted);
       }
 
 behind : (calls : List Call) (job : List ℕ) (room : ℕ) → Reads (readJob job .outcome) → (t : Table) → Came calls (jobIn job .society) t → t .job ≡ jobIn job .number

@@ -7,6 +7,7 @@ pub mod Accepted
 pub mod Sides
 pub mod Terms
 pub mod Best
+pub mod Far
 pub mod Told
 pub mod Lines
 pub mod Worked

@@ -12,10 +12,11 @@ use Rattle.whole.proofs.Order.{pos-nonneg}
 use Rattle.whole.proofs.Ring.{*ℤ-assoc, *ℤ-+ℤ}
 use Rattle.whole.proofs.Sums.{sum-cong, sum-ext, sum-*l}
 use Rattle.whole.proofs.Rows.{row-value}
-use Rattle.certificate.specs.Problem.{Problem, squared, loss, scaledLoss, link, residual, gap}
+use Rattle.certificate.specs.Problem.{Problem, squared, rough, loss, scaledLoss, link, residual, gap}
 use Rattle.certificate.specs.Problem as P
 use Rattle.certificate.specs.Terms.{cellTerm, terms, NotNegative}
 use Rattle.certificate.specs.Differences.{Inside, difference, coefficient, returned}
+use Rattle.certificate.specs.Far.{farness}
 use Rattle.certificate.proofs.Differences.{difference-is-form, smooth-loss}
 use Rattle.certificate.proofs.Families.{either, sum-forms}
 use Rattle.numbers.specs.Choice.{if_then_else_}
@@ -26,6 +27,7 @@ use Rattle.tally.specs.Supplied.{limit}
 use Rattle.measure.specs.Loss.{familyOf, familyAcross, acrossAt, fitOf, roughOf, lossOf}
 use Rattle.measure.specs.Gap.{linkSum, linkCoefficient, smoothPart, residualOf, gapOf}
 use Rattle.claims.specs.Meets.{Meets, scaledLossOf}
+use Rattle.claims.specs.Far.{farnessOf}
 
 -- Document 01's constant for a difference down; for one across the second constant, and 0 where the difference would run over its row's end. So both families
 -- start at every cell, and the laws of consecutive starts serve both.
@@ -67,8 +69,8 @@ module _ (j : Job) where
   masked-slope s d c false =
       ap (λ (x : ℤ). x *ℤ c) (zero-*ℤ d) ∙ zero-*ℤ c ∙ sym (ap (λ (x : ℤ). pos 2 *ℤ s *ℤ x) (zero-*ℤ c) ∙ *ℤ-zero (pos 2 *ℤ s))
 
-  -- the loss, whole and scaled
-  rough-same : (v : ℕ → ℤ) → sum (problemOf j .m) (λ f. problemOf j .κ f *ℤ squared (P.form (problemOf j) f v)) ≡ roughOf j v
+  -- the loss, whole and scaled, and how far off a table is
+  rough-same : (v : ℕ → ℤ) → rough (problemOf j) v ≡ roughOf j v
   rough-same v =
       sum-forms (familyOf j .count) (familyAcross j .count) (λ f. j .constant) (acrossConstant j) (coefficient (familyOf j)) (coefficient (familyAcross j))
       (λ κ row. κ *ℤ squared (sum (j .cells) (λ i. row i *ℤ v i)))
@@ -86,6 +88,10 @@ module _ (j : Job) where
   pub scaled-same : (d : ℤ) (X : ℕ → ℤ) → scaledLoss (problemOf j) d X ≡ scaledLossOf j d X
   unfolding scaledLossOf
   scaled-same d X = ap (λ (x : ℤ). sum (j .cells) (λ i. j .weight i *ℤ squared (X i -ℤ d *ℤ j .crude i)) +ℤ x) (rough-same X)
+
+  pub farness-same : (δ : ℕ → ℤ) → farness (problemOf j) δ ≡ farnessOf j δ
+  unfolding farnessOf
+  farness-same δ = ap (λ (x : ℤ). sum (j .cells) (λ i. j .weight i *ℤ squared (δ i)) +ℤ x) (rough-same δ)
 
   -- the residual
   doubled : (k s a b : ℤ) → pos 2 *ℤ k *ℤ a +ℤ pos 2 *ℤ s *ℤ b ≡ pos 2 *ℤ (k *ℤ a +ℤ s *ℤ b)

@@ -1,8 +1,9 @@
 -- The promises, each a law whose type is its statement in specs/Promises.antt.
-use Rattle.claims.specs.Promises.{AcceptedExactly, JobRefusedExactly, ProposalRefusedExactly, OutsideExactly, BrokenExactly, AboveExactly, NoOtherRefusal, EachSideSaid, NoTermNegative, TermAtMost, LossAtMost, LineLoss, Best, AcceptedMeets, WorkedTables, WorkedGrid}
+use Rattle.claims.specs.Promises.{AcceptedExactly, JobRefusedExactly, ProposalRefusedExactly, OutsideExactly, BrokenExactly, AboveExactly, NoOtherRefusal, EachSideSaid, NoTermNegative, TermAtMost, LossAtMost, LineLoss, Best, AcceptedMeets, AcceptedClose, LineFarness, GridFarness, FarReached, FourLeast, WorkedTables, WorkedGrid}
 use Rattle.claims.proofs.Accepted as Accepted
 use Rattle.claims.proofs.Terms as Terms
 use Rattle.claims.proofs.Best as Best
+use Rattle.claims.proofs.Far as Far
 use Rattle.claims.proofs.Told as Told
 use Rattle.claims.proofs.Lines as Lines
 use Rattle.claims.proofs.Worked as Worked
@@ -48,6 +49,21 @@ best = Best.best
 
 pub accepted-meets : AcceptedMeets
 accepted-meets = Best.accepted-meets
+
+pub accepted-close : AcceptedClose
+accepted-close = Far.accepted-close
+
+pub line-farness : LineFarness
+line-farness = Lines.line-farness
+
+pub grid-farness : GridFarness
+grid-farness = Worked.grid-farness
+
+pub far-reached : FarReached
+far-reached = Worked.far-reached
+
+pub four-least : FourLeast
+four-least = Worked.four-least
 
 pub worked-tables : WorkedTables
 worked-tables = Worked.worked-tables

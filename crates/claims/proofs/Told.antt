@@ -2,7 +2,7 @@
 use Prim.Native.Nat.{ℕ, _≤_}
 use mathlib.Core.Path.{_≡_, sym, ap₂, _∙_, refl, subst}
 use mathlib.Core.Bool.{Bool, true, false, cond, true≢false}
-use mathlib.Core.List.{List}
+use mathlib.Core.List.{List, [], _∷_}
 use native.Mathlib.Omega.{arith}
 use lib.Dec.{leb}
 use lib.IntN.{ℤ, pos, negsuc, natAbs, _-ℤ_}
@@ -30,13 +30,13 @@ use Rattle.shelf.specs.Shelf.{layoutIn, keepReply}
 use Rattle.shelf.specs.Calls.{own, keep, laidSaid, said}
 use Rattle.bench.specs.Answers.{answerWords}
 use Rattle.claims.specs.Read.{jobIn, valuesIn, lossIn}
-use Rattle.claims.specs.Meets.{NoneBelow}
 use Rattle.claims.specs.Verdicts.{Acceptable}
 use Rattle.claims.specs.Promises.{LossAtMost}
 use Rattle.claims.specs.BenchPromises.{ToldBest}
 use Rattle.claims.proofs.Accepted.{accepted-exactly, no-other-refusal}
 use Rattle.claims.proofs.Terms.{at-most, words-given, no-term-negative}
 use Rattle.claims.proofs.Best.{best}
+use Rattle.claims.proofs.Far.{accepted-close}
 
 natural : (z : ℤ) → pos 0 ≤ℤ z → z ≡ pos (natAbs z)
 natural (pos n) h = refl
@@ -71,11 +71,21 @@ verdicted job proposal (Accepted F G) e y =
     }
 
 -- ---- the words of its answer
+pub told : (job proposal : List ℕ) (place F G : ℕ) (answered : List ℕ) → answered ≡ 0 ∷ place ∷ F ∷ G ∷ [] → checkOf job proposal ≡ Accepted (pos F) (pos G)
+    → ToldBest job proposal place answered
+told job proposal place F G answered w q = record {
+  F = F;
+  G = G;
+  words = w;
+  accepted = q;
+  best = best job proposal (pos F) (pos G) q;
+  close = accepted-close job proposal (pos F) (pos G) q;
+}
+
 pub told-of : (job proposal answered : List ℕ) (v : Verdict) → checkOf job proposal ≡ v → answerOf v .number ≡ 0 → answered ≡ answerWords (answerOf v) → ToldBest job proposal 0 answered
 told-of job proposal answered (Refused number place) e n w = absurd (omega (arith, n, no-other-refusal job proposal number place e .0))
 told-of job proposal answered (Accepted F G) e n w =
-    let q = verdicted job proposal (Accepted F G) e refl .as-answered in
-    record { F = natAbs F; G = natAbs G; words = w; accepted = q; best = best job proposal (pos (natAbs F)) (pos (natAbs G)) q }
+    told job proposal 0 (natAbs F) (natAbs G) answered w (verdicted job proposal (Accepted F G) e refl .as-answered)
 
 pub kept-told : (job proposal shelf answered : List ℕ) → said shelf (own (keep job proposal)) .answer .number ≡ 0
     → answered ≡ answerWords (said shelf (own (keep job proposal)) .answer) → ToldBest job proposal 0 answered
@@ -94,7 +104,6 @@ pub record Handed (job proposal values : List ℕ) (r : Reply) : Type 0 where
   pub place : r .answer .place ≡ length values
   pub given : r .values ≡ values
   pub accepted : checkOf job proposal ≡ Accepted (pos (r .answer .loss)) (pos (r .answer .gap))
-  pub best : NoneBelow (jobIn job) (pos (r .answer .loss)) (pos (r .answer .gap))
 
 pub handed-told : (job proposal values : List ℕ) (room : ℕ) (v : Verdict) → checkOf job proposal ≡ v → handed room values v .answer .number ≡ 0 → Handed job proposal values (handed room values v)
 handed-told job proposal values room (Refused number place) e n = absurd (omega (arith, n, no-other-refusal job proposal number place e .0))
@@ -103,9 +112,6 @@ handed-told job proposal values room (Accepted F G) e n = go (leb (length values
     reply : Bool → Reply
     reply b = cond b (record { answer = record { number = 0; place = length values; loss = natAbs F; gap = natAbs G }; values = values }) (refusal 13 (length values))
 
-    told : checkOf job proposal ≡ Accepted (pos (natAbs F)) (pos (natAbs G))
-    told = verdicted job proposal (Accepted F G) e refl .as-answered
-
     go : (b : Bool) → reply b .answer .number ≡ 0 → Handed job proposal values (reply b)
-    go true m = record { place = refl; given = refl; accepted = told; best = best job proposal (pos (natAbs F)) (pos (natAbs G)) told }
+    go true m = record { place = refl; given = refl; accepted = verdicted job proposal (Accepted F G) e refl .as-answered }
     go false m = absurd (omega (arith, m))

@@ -21,6 +21,7 @@ use Rattle.bench.specs.Answers.{hasFour}
 use Rattle.bench.specs.Calls.{CheckSays, TermsSays, ProposeSays, ReadSays, WriteSays, ShelfSays, FetchSays}
 use Rattle.claims.specs.Read.{jobIn, valuesIn, multipliersIn, gapIn}
 use Rattle.claims.specs.Meets.{NoneBelow}
+use Rattle.claims.specs.Far.{NoneFar}
 use Rattle.claims.specs.Verdicts.{CellTold}
 use Rattle.claims.specs.Lists.{emptied}
 use Rattle.claims.specs.LastKept.{ClearedWith}
@@ -107,20 +108,24 @@ RestsKept = OfEachOutput RestKept
 
 -- ---- what is told of an accepted table
 
--- The words of an answer are 0, the place, F and G: the check accepts with just these, and no table that meets the job has a loss below F - G.
+-- The words of an answer are 0, the place, F and G: the check accepts with just these, no table that meets the job has a loss below F - G, and every one
+-- whose loss is not above F is close to the proposal's values (W-208).
 pub record ToldBest (job proposal : List ℕ) (place : ℕ) (answered : List ℕ) : Type 0 where
   pub F : ℕ
   pub G : ℕ
   pub words : answered ≡ 0 ∷ place ∷ F ∷ G ∷ []
   pub accepted : checkOf job proposal ≡ Accepted (pos F) (pos G)
   pub best : NoneBelow (jobIn job) (pos F) (pos G)
+  pub close : NoneFar (jobIn job) (valuesIn job proposal) (pos F) (pos G)
 
--- The first n words that a fetch leaves in its output, n being its place, are the values of some proposal for the job presented, and this is told of it.
+-- The first n words that a fetch leaves in its output, n being its place, are the values of some proposal for the job presented, and this is told of it;
+-- tables that are as good are close to these words.
 pub record ToldFetched (job answered left : List ℕ) : Type 0 where
   pub proposal : List ℕ
   pub told : ToldBest job proposal (jobIn job .cells) answered
   pub room : jobIn job .cells ≤ length left
   pub values : (i : ℕ) → i < jobIn job .cells → pos (getD left i 0) ≡ valuesIn job proposal i
+  pub close : NoneFar (jobIn job) (λ i. pos (getD left i 0)) (pos (told .F)) (pos (told .G))
 
 -- So it is wherever check, keep or fetch returns the number 0, whatever words are on the shelf.
 pub record AcceptedTold : Type 0 where

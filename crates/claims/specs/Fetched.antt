@@ -12,6 +12,7 @@ use Rattle.checked.specs.Answers.{Reply}
 use Rattle.shelf.specs.Calls.{Call, own, keep}
 use Rattle.claims.specs.Read.{jobIn, valuesIn}
 use Rattle.claims.specs.Meets.{NoneBelow}
+use Rattle.claims.specs.Far.{NoneFar}
 
 -- the call is one of those
 abbrev pub Sent : Call → List Call → Type 0
@@ -19,8 +20,8 @@ Sent call [] = ⊥
 Sent call (other ∷ calls) = (call ≡ other) ⊎ Sent call calls
 
 -- The reply hands out a table that was kept for the society and under the number of the job presented, and that is accepted for this job: the check of
--- its proposal against the job presented gives the reply's F and G, the values are the proposal's, and no table that meets the job, fractions
--- included, has a loss below F - G.
+-- its proposal against the job presented gives the reply's F and G, the values are the proposal's, no table that meets the job, fractions included, has a
+-- loss below F - G, and every one whose loss is not above F is close to these values (W-208).
 pub record IsAccepted (calls : List Call) (job : List ℕ) (r : Reply) : Type 0 where
   pub kept-under : List ℕ
   pub proposal : List ℕ
@@ -31,3 +32,4 @@ pub record IsAccepted (calls : List Call) (job : List ℕ) (r : Reply) : Type 0 
   pub count : length (r .values) ≡ jobIn job .cells
   pub values : (i : ℕ) → i < jobIn job .cells → pos (getD (r .values) i 0) ≡ valuesIn job proposal i
   pub best : NoneBelow (jobIn job) (pos (r .answer .loss)) (pos (r .answer .gap))
+  pub close : NoneFar (jobIn job) (valuesIn job proposal) (pos (r .answer .loss)) (pos (r .answer .gap))

@@ -1,6 +1,7 @@
 -- What is promised, and of what. Read them in this order.
 pub mod Read
 pub mod Meets
+pub mod Far
 pub mod Verdicts
 pub mod Worked
 pub mod Promises

@@ -1,6 +1,6 @@
 -- What is promised of the check: short statements about `checkOf`, which the check's contract cites, and the definitions beside them. The
 -- proof of each stands in proofs/Promises.antt.
-use Prim.Native.Nat.{ℕ, _+_, _-_, _≤_, _<_}
+use Prim.Native.Nat.{ℕ, _+_, _-_, _*_, _≤_, _<_}
 use mathlib.Core.Path.{_≡_}
 use mathlib.Core.Logic.{_↔_}
 use mathlib.Core.Bool.{false}
@@ -10,6 +10,7 @@ use lib.Signed.{_≤ℤ_}
 use Rattle.whole.specs.Sum.{sum}
 use Rattle.certificate.specs.Problem.{squared}
 use Rattle.certificate.specs.Differences.{formAt}
+use Rattle.certificate.specs.Far.{offBy}
 use Rattle.packs.specs.declared.Outcome.the-variants.{Refused as Refuses}
 use Rattle.jobs.specs.Words.{wordAt}
 use Rattle.jobs.specs.Job.{Job}
@@ -21,8 +22,9 @@ use Rattle.measure.specs.Loss.{fitOf, lossOf}
 use Rattle.measure.specs.Check.{checkOf}
 use Rattle.claims.specs.Read.{jobIn, proposalIn, valuesIn, multipliersIn, lossIn, termIn, Reads, BothRead}
 use Rattle.claims.specs.Meets.{EveryInBox, EveryLinkHolds, Meets, scaledLossOf, NoneBelow, NoneNegative}
+use Rattle.claims.specs.Far.{farnessOf, AsGood, NoneFar}
 use Rattle.claims.specs.Verdicts.{Acceptable, Outside, Broken, Above, SideSaid}
-use Rattle.claims.specs.Worked.{WorkedTable, plain, starred, grids}
+use Rattle.claims.specs.Worked.{WorkedTable, plain, starred, selectJob, grids, selectOff, farJob, farTable, farOther}
 
 -- ---- accepted exactly, and what each refusal means
 
@@ -85,10 +87,11 @@ abbrev pub LossAtMost : Type 0
 LossAtMost = (job proposal : List ℕ) → BothRead job proposal → (pos 0 ≤ℤ lossIn job proposal) × (lossIn job proposal ≤ℤ pos 7600000000000000000)
 
 -- W-205 adds nothing to a job that is no grid: its loss is document 01's, "sum of w(v-u)^2 + k times the sum of D^2" with D at i over the cells i to i+z.
+abbrev pub lineRough : Job → (v : ℕ → ℤ) → ℤ
+lineRough j v = j .constant *ℤ sum (j .cells - j .order) (λ i. squared (formAt (rowOf (j .order)) (j .order) 1 i v))
+
 abbrev pub LineLoss : Type 0
-LineLoss =
-    (j : Job) → Allowed j → j .grid ≡ false → (v : ℕ → ℤ)
-    → lossOf j v ≡ fitOf j v +ℤ j .constant *ℤ sum (j .cells - j .order) (λ i. squared (formAt (rowOf (j .order)) (j .order) 1 i v))
+LineLoss = (j : Job) → Allowed j → j .grid ≡ false → (v : ℕ → ℤ) → lossOf j v ≡ fitOf j v +ℤ lineRough j v
 
 -- ---- demand 3
 
@@ -102,6 +105,35 @@ AcceptedMeets =
     (job proposal : List ℕ) (F G : ℤ) → checkOf job proposal ≡ Accepted F G
     → (d : ℤ) → pos 1 ≤ℤ d → Meets (jobIn job) d (λ i. d *ℤ valuesIn job proposal i)
     × (scaledLossOf (jobIn job) d (λ i. d *ℤ valuesIn job proposal i) ≡ d *ℤ d *ℤ F)
+
+-- ---- W-208: how far off a rate can be
+
+-- Where the check accepts with F and G, every table that meets the job, fractions included, and whose loss is not above F is close to the accepted one.
+abbrev pub AcceptedClose : Type 0
+AcceptedClose = (job proposal : List ℕ) (F G : ℤ) → checkOf job proposal ≡ Accepted F G → NoneFar (jobIn job) (valuesIn job proposal) F G
+
+-- Of a job that is no grid the differences counted are "the weighted squares …, plus k times the squared order-z differences of those".
+abbrev pub LineFarness : Type 0
+LineFarness =
+    (j : Job) → Allowed j → j .grid ≡ false → (δ : ℕ → ℤ) → farnessOf j δ ≡ sum (j .cells) (λ i. j .weight i *ℤ squared (δ i)) +ℤ lineRough j δ
+
+-- Of a grid "both smoothing sums count": where one rate of the select table worked by hand is off by 1, that is 2·1² by its weight 2, 1·2² down, 2·1² across.
+abbrev pub GridFarness : Type 0
+GridFarness = farnessOf (jobIn (selectJob 40)) (wordAt selectOff) ≡ pos 8
+
+-- The bound is reached: a table accepted with F 12 and G 3, and another that meets the job with a loss of 12 too, and whose differences come to 4G.
+pub record FarReached : Type 0 where
+  pub accepted : checkOf farJob farTable ≡ Accepted (pos 12) (pos 3)
+  pub as-good : AsGood (jobIn farJob) (pos 12) (pos 1) (wordAt farOther)
+  pub reached : farnessOf (jobIn farJob) (offBy (pos 1) (wordAt farOther) (valuesIn farJob farTable)) ≡ pos 4 *ℤ pos 3
+
+-- So 4 cannot be lowered, not even by a fraction: if a/b does in its place for every accepted table, then it is at least 4.
+abbrev pub FourLeast : Type 0
+FourLeast =
+    (a b : ℕ)
+    → ((job proposal : List ℕ) (F G : ℤ) → checkOf job proposal ≡ Accepted F G → (d : ℤ) (X : ℕ → ℤ) → AsGood (jobIn job) F d X
+    → (pos b *ℤ farnessOf (jobIn job) (offBy d X (valuesIn job proposal))) ≤ℤ (pos a *ℤ G *ℤ (d *ℤ d)))
+    → 4 * b ≤ a
 
 -- ---- worked tables
 

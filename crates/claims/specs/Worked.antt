@@ -1,7 +1,8 @@
--- Document 01, "Tables worked by hand": the starred tables, each as the bytes of its two packs and the verdict that belongs to them.
+-- Document 01, "Tables worked by hand": the starred tables, each as the bytes of its two packs and the verdict that belongs to them; and tables of
+-- document 02, worked by hand likewise.
 use Prim.Native.Nat.{ℕ}
 use mathlib.Core.List.{List, [], _∷_, _++_}
-use lib.IntN.{pos}
+use lib.IntN.{ℤ, pos, negsuc}
 use Rattle.measure.specs.declared.check.Verdict.{Verdict}
 use Rattle.measure.specs.declared.check.Verdict.the-variants.{Accepted, Refused}
 
@@ -71,3 +72,17 @@ grids =
     ∷ table (selectJob 40) (10 ∷ 12 ∷ 15 ∷ 17 ∷ 21 ∷ 24 ∷ []) (Accepted (pos 219) (pos 40))
     ∷ table (selectJob 39) (10 ∷ 12 ∷ 15 ∷ 17 ∷ 21 ∷ 24 ∷ []) (Refused 9 2)
     ∷ []
+
+-- The first of these tables is off from the second by 1 in the cell 2 alone.
+abbrev pub selectOff : List ℤ
+selectOff = pos 0 ∷ pos 0 ∷ negsuc 0 ∷ pos 0 ∷ pos 0 ∷ pos 0 ∷ []
+
+-- W-208: u 4 4 4, weights 3 0 1, boxes 3..7, 2..4 and 0..1, T 3; the table 3 2 1, and the table 5 3 1, which is as far off from it as a table can be.
+abbrev pub farJob : List ℕ
+farJob = jobPack (3 ∷ []) (4 ∷ 3 ∷ 3 ∷ 7 ∷ []) (4 ∷ 0 ∷ 2 ∷ 4 ∷ []) (4 ∷ 1 ∷ 0 ∷ 1 ∷ []) noLink
+
+abbrev pub farTable : List ℕ
+farTable = 3 ∷ 2 ∷ 1 ∷ []
+
+abbrev pub farOther : List ℤ
+farOther = pos 5 ∷ pos 3 ∷ pos 1 ∷ []

@@ -9,7 +9,7 @@ use Rattle.whole.proofs.Solve.{num, _⊖_, _⊗_, _≗_, ring}
 use Rattle.whole.proofs.Ring.{*ℤ-+ℤ, *ℤ-lcomm}
 use Rattle.whole.proofs.Order.{≤ℤ-by, ≤ℤ-sub, ≤ℤ-trans, +ℤ-nonneg, *ℤ-nonneg, sq-nonneg, pos-nonneg}
 use Rattle.whole.proofs.Sums.{sum-ext, sum-*l, sum-nonneg}
-use Rattle.certificate.specs.Problem.{squared, form}
+use Rattle.certificate.specs.Problem.{squared, form, rough}
 use Rattle.certificate.specs.Promises.{LowerBound, ScaledByOne, ScaledAlike}
 use Rattle.certificate.proofs.Cell.{excess-nonneg}
 use Rattle.certificate.proofs.Expansion.{overCells, overForms, overLinks, expansion}
@@ -46,7 +46,7 @@ scaled-alike P k d X =
     (λ f. ap (λ (x : ℤ). P .κ f *ℤ squared x) (longer f) ∙ ring 3 (λ k c x. c ⊗ (k ⊗ x ⊗ (k ⊗ x)) ≗ k ⊗ k ⊗ (c ⊗ (x ⊗ x))) tt k (P .κ f) (form P f X))
     ∙ sum-*l (P .m) (k *ℤ k) (λ f. P .κ f *ℤ squared (form P f X)))
     ∙ sym
-    (*ℤ-+ℤ (k *ℤ k) (sum (P .n) (λ i. P .w i *ℤ squared (X i -ℤ d *ℤ P .u i))) (sum (P .m) (λ f. P .κ f *ℤ squared (form P f X))))
+    (*ℤ-+ℤ (k *ℤ k) (sum (P .n) (λ i. P .w i *ℤ squared (X i -ℤ d *ℤ P .u i))) (rough P X))
   where
     longer : (f : ℕ) → form P f (λ i. k *ℤ X i) ≡ k *ℤ form P f X
     longer f = sum-ext (P .n) (λ i. *ℤ-lcomm (P .a f i) k (X i)) ∙ sum-*l (P .n) k (λ i. P .a f i *ℤ X i)

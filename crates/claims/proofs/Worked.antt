@@ -1,5 +1,5 @@
 -- The starred tables, and those of document 02, from their bytes on, by computing.
-use Prim.Native.Nat.{ℕ, _*_}
+use Prim.Native.Nat.{_*_}
 use mathlib.Core.Path.{refl, subst}
 use native.Mathlib.Nat as N
 use native.Mathlib.Omega.{arith}

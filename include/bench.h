@@ -2,7 +2,8 @@
  *
  * The bench reads a job (one society's table to be graduated: a line of ages, or a grid for a select table), checks a proposed table with its
  * multipliers, makes a proposal of its own, and keeps accepted tables on a shelf that the caller lends. Document 01 has the rules, with request
- * W-205 for grids, W-203 for a fetch that checks, W-209 for counts of slots and W-202 for the terms of a gap; this page has what a caller needs.
+ * W-205 for grids, W-203 for a fetch that checks, W-209 for counts of slots, W-202 for the terms of a gap and W-208 for how far off a rate can be; this
+ * page has what a caller needs.
  *
  * WHAT EVERY CALL DOES
  *
@@ -74,6 +75,17 @@
  * A grid's cells run along a row first: the cell of row r and column c is r times the columns plus c. Its loss adds k times the squared
  * differences of the order down, down the columns, and the second constant times those of the order across, along the rows; no difference
  * runs over a row's end. Links, boxes and the shelf know no rows: a grid is n cells there.
+ *
+ * HOW FAR OFF A RATE CAN BE
+ *
+ * Of every table that check, keep or fetch answers with F and G this holds, and may be repeated: no table that meets the job and has no larger loss than
+ * ours, fractional ones included, differs from ours by more than r in a rate of weight w above 0, for every whole r with w*r*r at least 4*G. In any cell
+ * it differs by no more than the way from our value to the farther end of its box; of a weight of 0 no more is said. 4*G fits a word.
+ *
+ *     G 9: no rate of weight 1 differs by more than 6, of weight 10 by more than 2, of weight 1,000 by more than 1
+ *
+ * Together the weighted squares of the differences, plus each constant times the squared differences of those, come to at most 4*G; less cannot be
+ * promised. docs/FAR.md says it for actuaries.
  *
  * THE SHELF
  *
@@ -200,8 +212,8 @@ enum bench_side {
 #define BENCH_PLACE(said) ((said) / 32)
 
 /* Checks a proposal against a job. Done: the table meets every box and link and its gap is at most the job's tolerance; the answer has its
- * loss F and gap G, and no table that meets the job, fractional ones included, has a loss below F - G. Place 0. Writes nothing but the
- * answer. Numbers: 0 to 9, 13. */
+ * loss F and gap G, and no table that meets the job, fractional ones included, has a loss below F - G; from G follows how far off a rate can be (above).
+ * Place 0. Writes nothing but the answer. Numbers: 0 to 9, 13. */
 uint64_t bench_check(const uint8_t *job, size_t job_bytes, const uint8_t *proposal, size_t proposal_bytes,
                      uint64_t *answer, size_t answer_words);
 
@@ -231,7 +243,8 @@ uint64_t bench_keep(uint32_t *shelf, size_t shelf_words, const uint8_t *job, siz
 /* Takes a job, finds what its society keeps under its number (in the lowest slot, if several have it), and checks the kept values and multipliers
  * against this job, as bench_check would check a proposal of them. So a job that was corrected after its table was kept gets that table only if
  * it still passes. Done: the kept values stand in `out`, the place is their count n, and words of `out` beyond n stay as they were; F and G are those
- * of this check, not those that the table was kept with, and no table that meets the job, fractional ones included, has a loss below F - G.
+ * of this check, not those that the table was kept with: no table that meets the job, fractional ones included, has a loss below F - G, and how far off
+ * a rate can be follows from this G.
  * 12 if nothing is kept under the number, or if what is kept has another n or another count of links; then 6 for a kept number that is not
  * allowed, which a shelf that was cleared first and then written by these calls alone never has; then 7, 8, 9 as at the check. Only the counts are
  * compared: a table that was kept for a line is checked for a grid of as many cells and links as well. Never writes to the shelf: a table that is

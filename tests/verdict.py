@@ -25,9 +25,9 @@ def roughness(job, v, differences=differences):
 def loss(job, v, differences=differences):
     return sum(w * (x - u) ** 2 for x, (u, w, _, _) in zip(v, job.cells)) + roughness(job, v, differences)
 
-def farness(job, off):
+def farness(job, off, differences=differences):
     """Of what one table is off another: the weighted squares, and each constant times the squared differences (W-208)."""
-    return sum(w * x * x for x, (_, w, _, _) in zip(off, job.cells)) + roughness(job, off)
+    return sum(w * x * x for x, (_, w, _, _) in zip(off, job.cells)) + roughness(job, off, differences)
 
 def residuals(job, v, multipliers, differences=differences):
     r = [2 * w * (x - u) for x, (u, w, _, _) in zip(v, job.cells)]

@@ -83,7 +83,8 @@ def reaching(tolerance=3):
 def bound_reached():
     """v 3 2 1. The difference 3 - 2*2 + 1 is 0, so F is 3*1 + 1*9 and the residuals are -6, 0 and -6. Cell 0 has room up to its ceiling, 6*4, and its
     weight supplies less, 36/12; cell 2 is at its ceiling. The terms are 3, 0 and 0: T 3 accepts, T 2 names cell 0."""
-    return [(check_case(reaching(tolerance).pack(), proposal_pack([3, 2, 1], [])), told) for tolerance, told in ((3, [0, 0, 12, 3]), (2, [9, 0, 0, 0]))]
+    lines = (3, [0, 0, 12, 3]), (2, [9, 0, 0, 0])
+    return [(check_case(reaching(tolerance).pack(), proposal_pack([3, 2, 1], [])), told) for tolerance, told in lines]
 
 # ---- refusals of the check, and limits
 
@@ -132,7 +133,8 @@ def computed(case):
 
 def by_hand():
     """The cases with lines that were worked out by hand."""
-    return [(house_case(pack, house.ROOM), told) for pack, told in house.refused()] + worked() + held_back() + bound_reached() + refused() + grids.by_hand()
+    thin = [(house_case(pack, house.ROOM), told) for pack, told in house.refused()]
+    return thin + worked() + held_back() + bound_reached() + refused() + grids.by_hand()
 
 def solved():
     """The solver's jobs as they are stored."""

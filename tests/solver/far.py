@@ -8,13 +8,15 @@ The last line is 'N passed, M failed': one count for each example worked by hand
 """
 import random, sys
 from fractions import Fraction
+from functools import partial
 from pathlib import Path
+from statistics import median
 
 sys.path.insert(0, str(Path(__file__).resolve().parents[1]))
 from cases import expect, grids
 from packs import job_of
 from solver.checked import checked_jobs
-from solver.misstated import MISSTATED
+from solver.misstated import MISSMOOTHED, MISSTATED, smoothed
 from solver.parts import Table, meets, scaled_loss
 from solver.reaching import reaching
 from solver.tried import Tried, by_box, by_weight, together
@@ -63,9 +65,6 @@ def stored_faults(checked):
     if own < optimum.lower or 100 * (own - optimum.upper) > loss(checked.job, checked.values) - optimum.upper:
         yield "the solver's table is far from its interval"
 
-def solvers(dice, checked):
-    return Tried(dice, checked.job, checked.values, *checked.told[2:], checked.table)
-
 def small(dice, grid):
     """A small job that reaches the bound."""
     job, values, best = reaching(dice, grid)
@@ -91,31 +90,31 @@ def as_far_as_can_be(tried):
     the best table."""
     return 10 * max(other.farness for other in tried.others()) >= 9 * 4 * tried.room()
 
-def largest(jobs):
-    """The largest farness in gaps, and the largest part in it of one rate."""
-    others = [(other, x) for x in jobs if x.gap > 0 for other in x.others()]
-    alone = [Fraction(max(w * off ** 2 for off, (_, w, _, _) in zip(other.off, x.job.cells)), other.table.d ** 2) / x.gap for other, x in others]
-    return max(other.farness / x.gap for other, x in others), max(alone)
+def in_gaps(tried):
+    """The largest farness, and the most that one rate has in it, in gaps."""
+    alone = [Fraction(max(w * x ** 2 for x, (_, w, _, _) in zip(other.off, tried.job.cells)), other.table.d ** 2) for other in tried.others()]
+    return float(max(other.farness for other in tried.others()) / tried.gap), float(max(alone) / tried.gap)
 
 def too_little(kind, jobs):
     """Says what was tried of a kind of job; what its random tables do not reach. A table that is the best itself has no other beside it."""
     free = [x for x in jobs if x.room() > 0]
     new, up, far = (sum(map(bool, map(test, free))) for test in (new_losses, up_to_the_loss, as_far_as_can_be))
-    together, alone = (float(x) for x in largest(jobs))
-    print(f'{len(jobs)} {kind}, {len(jobs) - len(free)} of them the best itself; {sum(len(x.random) for x in jobs)} random tables; of {len(free)} jobs '
-          f'{new} have new tables, {up} up to the loss, {far} as far as can be; farness up to {together:.3f} G, by one rate {alone:.3f} G')
+    together, alone = zip(*(in_gaps(x) for x in jobs if x.gap > 0))
+    print(f'{len(jobs)} {kind}, in {len(jobs) - len(free)} the accepted table is the best; {new} of the other {len(free)} have random tables '
+          f'({sum(len(new_losses(x)) for x in free)}), {up} some up to F, {far} some as far off as can be;')
+    print(f'    farness: median {median(together):.2g} G, largest {max(together):.3f} G, by one rate {max(alone):.3f} G')
     if new < len(free):
         yield f'some {kind} have no new table'
     if 10 * up < 9 * len(free) or 2 * far < len(free):
         yield f'the tables of {kind} stay near the best'
 
-def not_told(misstated, kinds):
+def not_told(said, misstated, kinds):
     """Says in how many jobs a wrong statement is told; whether lines or grids do not tell it."""
     counts = {kind: sum(map(misstated, jobs)) for kind, jobs in kinds.items()}
-    print(f'{misstated.__doc__[:-1]}: told in ' + ', '.join(f'{count} of {len(kinds[kind])} {kind}' for kind, count in counts.items()))
+    print(f'{said[:-1]}: told in ' + ', '.join(f'{count} of {len(kinds[kind])} {kind}' for kind, count in counts.items()))
     for kind in ('lines', 'grids'):
-        if counts[kind] + counts['small ' + kind] == 0:
-            yield f'not told by {kind}: {misstated.__doc__}'
+        if kind in counts and counts[kind] + counts['small ' + kind] == 0:
+            yield f'not told by {kind}: {said}'
 
 # ---- the count
 
@@ -125,7 +124,7 @@ def results(dice, checked):
     for x in checked:
         wrong = list(stored_faults(x))
         if x.accepted():
-            tried = solvers(dice, x)
+            tried = Tried(dice, x.job, x.values, *x.told[2:], x.table)
             kinds['grids' if x.job.is_grid() else 'lines'].append(tried)
             wrong += faults(tried)
         yield [f'job {x.job.job} of society {x.job.society}: {fault}' for fault in wrong]
@@ -134,7 +133,9 @@ def results(dice, checked):
         yield from map(small_faults, kinds[kind])
     yield from (example_faults(*example) for example in examples())
     yield from (too_little(*kind) for kind in kinds.items())
-    yield from (not_told(misstated, kinds) for misstated in MISSTATED)
+    yield from (not_told(misstated.__doc__, misstated, kinds) for misstated in MISSTATED)
+    of_grids = {kind: kinds[kind] for kind in ('grids', 'small grids')}
+    yield from (not_told(wrong.__doc__, partial(smoothed, wrong=wrong), of_grids) for wrong in MISSMOOTHED)
 
 def main():
     passed = failed = 0

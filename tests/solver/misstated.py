@@ -1,8 +1,9 @@
 """What W-208 does not say and could be taken to: each answers whether a table tells that it is wrong."""
 from solver.parts import in_parts
+from solver.slips import constants_exchanged, orders_exchanged, over_the_end, stride_one
 from solver.tried import by_box, by_weight, together
 from solver.ways import box_rooms, last, link_rooms
-from verdict import residuals
+from verdict import differences, farness, residuals
 
 def three_gaps(tried):
     """3*G in place of 4*G."""
@@ -15,6 +16,14 @@ def rate_by_three_gaps(tried):
 def nearer_end(tried):
     """A rate within the nearer end of its box."""
     return not all(by_box(tried, other, min) for other in tried.others())
+
+def smoothed(tried, wrong):
+    """Whether by wrong differences a table is farther off than 4*G."""
+    return any(farness(tried.job, other.off, wrong) > 4 * tried.gap * other.table.d ** 2 for other in tried.others())
+
+def smoothing_thrice(tried):
+    """The smoothing sums counted three times."""
+    return smoothed(tried, lambda job: differences(job) * 3)
 
 def farther(tried, step, asked, most):
     """Whether the last table on the way from the best along a step is farther off than 4*G, if this is asked of it and a loss of at most `most`."""
@@ -39,4 +48,7 @@ def larger_loss(tried):
     """A loss of at most F + G."""
     return farther(tried, tried.best.off, [box_rooms, link_rooms], tried.loss + tried.gap)
 
-MISSTATED = (three_gaps, rate_by_three_gaps, nearer_end, boxes_not_asked, links_not_asked, larger_loss)
+MISSTATED = (three_gaps, rate_by_three_gaps, nearer_end, smoothing_thrice, boxes_not_asked, links_not_asked, larger_loss)
+
+# Of grids alone. With the differences across left out, less is said than W-208 says, and it is true.
+MISSMOOTHED = (constants_exchanged, orders_exchanged, over_the_end, stride_one)

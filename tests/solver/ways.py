@@ -1,18 +1,15 @@
-"""Other tables that meet a job with a loss of at most a figure, found on straight ways. Between two such tables lie only such tables, so a way that leaves
-them does not come back: its last one is found exactly, in parts of the step. Whatever is found here is tested where it is used."""
+"""Tables that meet a job with a loss of at most a figure, found on straight ways. Between two such tables lie only such tables, so a way that has left
+them does not come back, and its last one is found exactly, in parts of a step. What is found here is tested anew where it is used."""
 from math import isqrt
 from solver.bounds import mended
 from solver.parts import Table, scaled_loss
 from verdict import farness, term_sum
 
 PARTS = 2 ** 20
-TURNS = 100
+TURNS = 30
+TRIES = 3
 
 # ---- the last table on a way
-
-def step(table, other):
-    """From a table to another in the same parts."""
-    return [y - x for x, y in zip(table.x, other.x)]
 
 def box_rooms(job, table, step):
     """How fast a step nears the end of each box, and how far that end is."""
@@ -23,15 +20,16 @@ def link_rooms(job, table, step):
     return [(term_sum(terms, step), b * table.d - term_sum(terms, table.x)) for terms, b in job.links]
 
 def by_loss(job, table, step, most):
-    """How many parts of a step lead to a loss of `most`, rounded down. After p parts the loss is a square function of p, whose larger root that is."""
+    """How many parts of a step lead up to a loss of `most`, rounded down: the loss is a square function of them, and this is its larger root, if
+    there is one."""
     start, square = scaled_loss(job, table) - most * table.d ** 2, farness(job, step)
     slope = scaled_loss(job, Table(table.d, [x + s for x, s in zip(table.x, step)])) - most * table.d ** 2 - start - square
-    return (isqrt(PARTS ** 2 * (slope ** 2 - 4 * square * start)) - PARTS * slope) // (2 * square)
+    return (isqrt(PARTS ** 2 * max(0, slope ** 2 - 4 * square * start)) - PARTS * slope) // (2 * square)
 
 def last(job, table, step, most, asked=(box_rooms, link_rooms)):
-    """The last table on the way from one along a step that keeps to what is asked, with a loss of at most `most`."""
-    rooms = [PARTS * room // pace for rooms in asked for pace, room in rooms(job, table, step) if pace > 0]
-    p = min([by_loss(job, table, step, most)] + rooms) if any(step) else 0
+    """The last table on the way from one along a step that keeps to what is asked, with a loss of at most `most`; that one itself if there is none."""
+    rooms = [PARTS * room // pace for limits in asked for pace, room in limits(job, table, step) if pace > 0]
+    p = max(0, min([by_loss(job, table, step, most)] + rooms)) if any(step) else 0
     return Table(table.d * PARTS, [PARTS * x + p * s for x, s in zip(table.x, step)])
 
 # ---- random tables
@@ -50,12 +48,15 @@ def all_alike(dice, sizes):
 KINDS = (every_rate, one_rate, all_alike)
 
 def shaken(dice, kind, job, table, gap):
-    """A table that meets the job, from one that does: rates are moved by about as much as the gap grants each by its weight, and mended. Or None."""
-    d = table.d
-    moves = kind(dice, [isqrt(gap * d * d // max(1, w)) + 1 for _, w, _, _ in job.cells])
-    moved = [min(hi * d, max(lo * d, x + move)) for x, move, (_, _, lo, hi) in zip(table.x, moves, job.cells)]
-    x = mended(job, moved, d, dice.choice((1, -1)), TURNS)
-    return None if x is None or x == table.x else Table(d, x)
+    """A table that meets the job, from one that does: rates are moved by about as much as the gap grants each by its weight, and mended. None if
+    that fails, or leads back, a few times."""
+    d, sizes = table.d, [isqrt(gap * table.d ** 2 // max(1, w)) + 1 for _, w, _, _ in job.cells]
+    for _ in range(TRIES):
+        moved = [min(hi * d, max(lo * d, x + move)) for x, move, (_, _, lo, hi) in zip(table.x, kind(dice, sizes), job.cells)]
+        x = mended(job, moved, d, dice.choice((1, -1)), TURNS)
+        if x not in (None, table.x):
+            return Table(d, x)
+    return None
 
 def middle(table, finer):
     """The middle of two tables, one of them in finer parts."""
@@ -72,6 +73,6 @@ def random_tables(dice, job, values, best, most, gap):
     for kind in KINDS * 3:
         found = shaken(dice, kind, job, best, gap)
         if found:
-            end = last(job, best, step(best, found), most)
+            end = last(job, best, [y - x for x, y in zip(best.x, found.x)], most)
             yield end
             yield opposite(job, values, middle(best, end), most)

@@ -135,7 +135,7 @@ def results(dice, checked):
     yield from (too_little(*kind) for kind in kinds.items())
     yield from (not_told(misstated.__doc__, misstated, kinds) for misstated in MISSTATED)
     of_grids = {kind: kinds[kind] for kind in ('grids', 'small grids')}
-    yield from (not_told(wrong.__doc__, partial(smoothed, wrong=wrong), of_grids) for wrong in MISSMOOTHED)
+    yield from (not_told(f'In the farness: {wrong.__doc__}', partial(smoothed, wrong=wrong), of_grids) for wrong in MISSMOOTHED)
 
 def main():
     passed = failed = 0

@@ -21,6 +21,8 @@ def smoothed(tried, wrong):
     """Whether by wrong differences a table is farther off than 4*G."""
     return any(farness(tried.job, other.off, wrong) > 4 * tried.gap * other.table.d ** 2 for other in tried.others())
 
+# Twice would be true. With W the weighted squares, R the smoothing sums, C the terms by weight and B all others, a loss of at most F leaves
+# W + R <= B + 2*sqrt(C*W), so W + 2*R <= 2*B + 4*sqrt(C*W) - W <= 2*B + 4*C <= 4*G.
 def smoothing_thrice(tried):
     """The smoothing sums counted three times."""
     return smoothed(tried, lambda job: differences(job) * 3)

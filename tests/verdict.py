@@ -1,5 +1,5 @@
-"""Loss, gap and the check's verdict by document 01 ("Loss and gap", "Order"), W-202 and W-205, in Python's whole numbers, which have no limit and
-never wrap."""
+"""Loss, gap and the check's verdict by document 01 ("Loss and gap", "Order"), W-202 and W-205, and how far two tables are apart by W-208, in Python's
+whole numbers, which have no limit and never wrap."""
 from packs import Refused, job_of, proposal_of
 
 ROWS = {1: [-1, 1], 2: [1, -2, 1], 3: [-1, 3, -3, 1], 4: [1, -4, 6, -4, 1]}
@@ -19,9 +19,15 @@ def term_sum(terms, v):
     """The sum of coefficient times rate over the terms of a difference or a link."""
     return sum(s * v[c] for c, s in terms)
 
+def roughness(job, v, differences=differences):
+    return sum(constant * term_sum(terms, v) ** 2 for constant, terms in differences(job))
+
 def loss(job, v, differences=differences):
-    fit = sum(w * (x - u) ** 2 for x, (u, w, _, _) in zip(v, job.cells))
-    return fit + sum(constant * term_sum(terms, v) ** 2 for constant, terms in differences(job))
+    return sum(w * (x - u) ** 2 for x, (u, w, _, _) in zip(v, job.cells)) + roughness(job, v, differences)
+
+def farness(job, off, differences=differences):
+    """Of what one table is off another: the weighted squares, and each constant times the squared differences (W-208)."""
+    return sum(w * x * x for x, (_, w, _, _) in zip(off, job.cells)) + roughness(job, off, differences)
 
 def residuals(job, v, multipliers, differences=differences):
     r = [2 * w * (x - u) for x, (u, w, _, _) in zip(v, job.cells)]

@@ -6,9 +6,9 @@
   tests/cases/expect.py --random N SEED IN OUT      writes N random proposals and N random checks of grids, and the lines that they must print;
                                                     the program takes at most 10,000 cases
 
-First come the house proposals of `tests/house/expect.py`, then what is worked out by hand: document 01's tables, largest terms (W-202), refusals, and
-the grids of `tests/cases/grids.py`; then limits and random grids, and last the solver's jobs, one for each line of `tests/solver/optima`. Those are kept
-as they are stored: only their lines are computed.
+First come the house proposals of `tests/house/expect.py`, then what is worked out by hand: document 01's tables, largest terms (W-202), a table whose
+bound is reached (W-208), refusals, and the grids of `tests/cases/grids.py`; then limits and random grids, and last the solver's jobs, one for each line
+of `tests/solver/optima`. Those are kept as they are stored: only their lines are computed.
 """
 import sys
 from pathlib import Path
@@ -74,6 +74,18 @@ def held_back():
             made.append((check_case(three([0, 5, 0], links=links, tolerance=tolerance).pack(), proposal_pack([3, 2, 1], multipliers)), told))
     return made
 
+# ---- W-208: a table whose bound is reached, worked out by hand
+
+def reaching(tolerance=3):
+    """u 4 4 4, weights 3 0 1 and order 2, in the boxes 3..7, 2..4 and 0..1."""
+    return Job(2, 1, [(4, 3, 3, 7), (4, 0, 2, 4), (4, 1, 0, 1)], tolerance=tolerance)
+
+def bound_reached():
+    """v 3 2 1. The difference 3 - 2*2 + 1 is 0, so F is 3*1 + 1*9 and the residuals are -6, 0 and -6. Cell 0 has room up to its ceiling, 6*4, and its
+    weight supplies less, 36/12; cell 2 is at its ceiling. The terms are 3, 0 and 0: T 3 accepts, T 2 names cell 0."""
+    lines = (3, [0, 0, 12, 3]), (2, [9, 0, 0, 0])
+    return [(check_case(reaching(tolerance).pack(), proposal_pack([3, 2, 1], [])), told) for tolerance, told in lines]
+
 # ---- refusals of the check, and limits
 
 def refused():
@@ -121,7 +133,8 @@ def computed(case):
 
 def by_hand():
     """The cases with lines that were worked out by hand."""
-    return [(house_case(pack, house.ROOM), told) for pack, told in house.refused()] + worked() + held_back() + refused() + grids.by_hand()
+    thin = [(house_case(pack, house.ROOM), told) for pack, told in house.refused()]
+    return thin + worked() + held_back() + bound_reached() + refused() + grids.by_hand()
 
 def solved():
     """The solver's jobs as they are stored."""

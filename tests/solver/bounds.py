@@ -14,6 +14,7 @@ solved in exact whole numbers. Any multipliers give a certain end; the solver's 
 from fractions import Fraction
 from itertools import zip_longest
 from house.expect import matrix
+from solver.parts import Table, scaled_loss
 from verdict import differences, loss, term_sum
 
 PARTS = 2 ** 20
@@ -52,7 +53,7 @@ def meeting(job, table, d, turns=300):
 
 def loss_of_parts(job, x, d):
     """The loss of the table x/d."""
-    return loss(job, [Fraction(v, d) for v in x])
+    return Fraction(scaled_loss(job, Table(d, x)), d * d)
 
 def upper_end(job, table):
     """The least loss among tables that meet the job and lie near the one given, in coarser and finer parts, or None."""

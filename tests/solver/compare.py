@@ -12,22 +12,10 @@ from pathlib import Path
 from statistics import median
 
 sys.path.insert(0, str(Path(__file__).resolve().parents[1]))
-import packs
-from solver.optima import near, optima
+from solver.checked import checked_jobs
+from solver.optima import near
 from solver.slips import SLIPS, WRONG_DIFFERENCES, best_of
 from verdict import gap, loss, verdict
-
-class Checked:
-    """A job of the input with its proposal, the line that was printed, and the solver's optimum."""
-
-    def __init__(self, case, line, optimum):
-        job, proposal = packs.parts_of(case)
-        self.job = packs.job_of(job)
-        self.values, self.multipliers = packs.proposal_of(proposal, self.job)
-        self.told, self.optimum = [int(x) for x in line.split()], optimum
-
-    def accepted(self):
-        return self.told[0] == 0
 
 def between(told_loss, told_gap, optimum):
     """Whether the least loss can lie between F - G and F."""
@@ -102,10 +90,7 @@ def report(what, jobs):
           f'G relative to F: median {median(shares):.2g}, largest {max(shares):.2g}')
 
 def main():
-    stored, cases, lines = optima(), packs.cut(packs.STDIN.read_bytes()), packs.STDOUT.read_text().splitlines()
-    if not stored or len(cases) != len(lines):
-        sys.exit('the stored cases, lines and optima do not belong together')
-    jobs = [Checked(*x) for x in zip(cases[-len(stored):], lines[-len(stored):], stored)]
+    jobs = checked_jobs()
     grids = [x for x in jobs if x.job.is_grid()]
     passed = failed = 0
     for checked in jobs:

@@ -1,31 +1,36 @@
 #!/usr/bin/python3
-"""Makes the solver's jobs: crates/cases/stdin's last part with its lines, and tests/solver/optima. Needs Debian's python3-cvxopt.
+"""Makes the solver's jobs: crates/cases/stdin's last part with its lines, tests/solver/optima and tests/solver/tables. Needs Debian's python3-cvxopt.
 
   tests/solver/make.py lines grids     draws both parts anew; with one of the names the other part stays as it is stored
+  tests/solver/make.py tables          solves the stored jobs anew and writes tests/solver/tables alone
 
 A job from the dice is solved as a quadratic program. The values are rounded to whole rates that meet the job, the multipliers to whole numbers, and
-those are its proposal. A job is drawn again where the solver fails, the interval of its least loss is wide, no such rounding is found, or the gap
-says nothing. What is stored is the record: another version of the solver may find other figures.
+those are its proposal; rounded to parts of a rate, the values are the solver's table. A job is drawn again where the solver fails, the interval of its
+least loss is wide, no such rounding is found, or the gap says nothing. What is stored is the record: another version of the solver may find other
+figures.
 """
 import random, sys
 from collections import Counter
 from math import ceil, floor
 from pathlib import Path
+from typing import NamedTuple
 
 sys.path.insert(0, str(Path(__file__).resolve().parents[1]))
 import cvxopt
 from cvxopt import solvers
 from cases import expect
 from house.expect import matrix
-from packs import Grid, check_case, job_of, parts_of, proposal_pack
-from solver.bounds import gathered, lower_end, meeting, upper_end
+from packs import Grid, check_case, job_of, parts_of, proposal_of, proposal_pack
+from solver.bounds import gathered, loss_of_parts, lower_end, meeting, upper_end
 from solver.jobs import job as drawn
-from solver.optima import OPTIMA, near, texts
+from solver.optima import OPTIMA, TABLES, near, texts
 from verdict import gap, loss
 
 MOST = 10 ** 15
 WIDE = 1e-8
 DIGITS = 6
+DENOMINATORS = [10 ** digits for digits in range(7)]
+ENOUGH = 1000
 
 solvers.options.update(show_progress=False, abstol=1e-14, reltol=1e-13, feastol=1e-13, maxiters=60)
 
@@ -88,8 +93,17 @@ def proposal(job, values, links):
         raise Again('a gap above the loss')
     return whole, multipliers
 
+def table_near(job, values, whole):
+    """The line of the solver's table. Of tables near the solver's values that meet the job, it is the one in the fewest parts whose loss is above the
+    least found by no more than a thousandth of what the whole table's is."""
+    found = [(1, whole)] + [(d, x) for d in DENOMINATORS for x in [meeting(job, values, d)] if x is not None]
+    losses = [loss_of_parts(job, x, d) for d, x in found]
+    enough = min(losses) + (losses[0] - min(losses)) / ENOUGH
+    d, x = next(table for table, own in zip(found, losses) if own <= enough)
+    return ' '.join(str(number) for number in (d, *(a - d * b for a, b in zip(x, whole))))
+
 def solved(job):
-    """Values, multipliers, and the solver's figure with the two that the least loss lies between."""
+    """Values, multipliers, the line of the solver's table, and the solver's figure with the two that the least loss lies between."""
     if all(lo == hi for _, _, lo, hi in job.cells):
         raise Again('no room in any box')
     try:
@@ -102,7 +116,8 @@ def solved(job):
     figure = loss(job, values)
     if not near(figure, lower, upper):
         raise Again('an optimum beside its interval')
-    return *proposal(job, values, links), (figure, lower, upper)
+    whole, multipliers = proposal(job, values, links)
+    return whole, multipliers, table_near(job, values, whole), (figure, lower, upper)
 
 def tolerance(job, values, multipliers, turn):
     """One job in ten has one less than its gap, two have the gap itself, the others somewhat more."""
@@ -173,38 +188,68 @@ def kept(dice, size, again):
         except Again as reason:
             again[str(reason)] += 1
 
+class Made(NamedTuple):
+    """What is stored of a job: its line of the optima, its line of the tables, and its case."""
+    optimum: str
+    table: str
+    case: bytes
+
 PARTS = {'lines': (1, line_sizes), 'grids': (2, grid_sizes)}
 
 def made(name, first, again):
-    """A part's jobs, numbered from `first`: for each its line of the optima and its case."""
+    """A part's jobs, numbered from `first`."""
     seed, sizes = PARTS[name]
     dice, out = random.Random(seed), []
     for turn, size in enumerate(sizes(random.Random(seed)), first):
-        job, values, multipliers, (figure, lower, upper) = kept(dice, size, again)
+        job, values, multipliers, table, (figure, lower, upper) = kept(dice, size, again)
         job.society, job.job, job.tolerance = turn % 8, turn, tolerance(job, values, multipliers, turn)
         named = f'{job.society} {job.job} {len(job.cells)} {job.order} {len(job.links)}'
         text = f'{named} {figure:.{DIGITS}f} {decimals(lower, floor)} {decimals(upper, ceil)}'
-        out.append((text, check_case(job.pack(), proposal_pack(values, multipliers))))
+        out.append(Made(text, table, check_case(job.pack(), proposal_pack(values, multipliers))))
     return out
+
+# ---- what is stored
 
 def stored():
     """Both parts as they are stored."""
     parts = {'lines': [], 'grids': []}
-    for text, case in zip(texts(), expect.solved()):
-        parts['grids' if job_of(parts_of(case)[0]).is_grid() else 'lines'].append((text, case))
+    for job in map(Made._make, zip(texts(OPTIMA), texts(TABLES), expect.solved(), strict=True)):
+        parts['grids' if job_of(parts_of(job.case)[0]).is_grid() else 'lines'].append(job)
     return parts
 
-def main(*names):
-    if not names or set(names) - set(PARTS):
-        sys.exit(__doc__)
+def write(path, head, lines):
+    path.write_text(''.join(line + '\n' for line in [head, *lines]))
+
+def write_optima(lines):
+    write(OPTIMA, '# society, job, cells, order field, links, the least loss as the solver has it, and two figures that it lies between', lines)
+
+def write_tables(lines):
+    write(TABLES, "# a table near the solver's best that meets the job: d, and by how many parts of 1/d each rate is off the proposal's", lines)
+
+def table_anew(case):
+    """The line of the solver's table for a stored case."""
+    job, proposal = parts_of(case)
+    job = job_of(job)
+    return table_near(job, optimum(job)[0], proposal_of(proposal, job)[0])
+
+def draw(*names):
+    """Draws the named parts anew."""
     parts, again = stored(), Counter()
     for name in names:
         parts[name] = made(name, 0 if name == 'lines' else len(parts['lines']), again)
     jobs = parts['lines'] + parts['grids']
-    head = '# society, job, cells, order field, links, the least loss as the solver has it, and two figures that it lies between\n'
-    OPTIMA.write_text(head + ''.join(text + '\n' for text, _ in jobs))
-    expect.write(expect.cases([case for _, case in jobs]))
+    write_optima(job.optimum for job in jobs)
+    write_tables(job.table for job in jobs)
+    expect.write(expect.cases([job.case for job in jobs]))
     print(f'{len(jobs)} jobs; drawn again: {dict(again)}')
+
+def main(*names):
+    if names == ('tables',):
+        write_tables(table_anew(case) for case in expect.solved())
+    elif names and not set(names) - set(PARTS):
+        draw(*names)
+    else:
+        sys.exit(__doc__)
 
 if __name__ == '__main__':
     main(*sys.argv[1:])

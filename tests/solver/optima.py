@@ -1,8 +1,10 @@
-"""The solver's optima as they are stored in tests/solver/optima: one line a job, in the order of their cases."""
+"""What the solver found, as it is stored: one line a job, in the order of their cases. tests/solver/optima has the least losses, tests/solver/tables a
+table near the best."""
 from fractions import Fraction
 from pathlib import Path
 
 OPTIMA = Path(__file__).resolve().with_suffix('')
+TABLES = OPTIMA.with_name('tables')
 NEAR = Fraction(1, 10 ** 7)
 
 def near(figure, lower, upper):
@@ -18,9 +20,13 @@ class Optimum:
         self.named = [int(x) for x in fields[:5]]
         self.figure, self.lower, self.upper = (Fraction(x) for x in fields[5:])
 
-def texts():
+def texts(path=OPTIMA):
     """The stored lines."""
-    return [line for line in OPTIMA.read_text().splitlines() if not line.startswith('#')] if OPTIMA.exists() else []
+    return [line for line in path.read_text().splitlines() if not line.startswith('#')] if path.exists() else []
 
 def optima():
     return [Optimum(text) for text in texts()]
+
+def tables():
+    """For each job d, and by how many parts of 1/d each rate of the solver's table is off the proposal's."""
+    return [(d, off) for d, *off in ([int(x) for x in text.split()] for text in texts(TABLES))]

@@ -106,26 +106,26 @@ within e m p h =
     (pos-mono (root (natAbs e) (n .0) (pos-le (subst₂ (λ (x z : ℤ). x ≤ℤ z) (squared-natAbs e) (ap squared (n .1)) h))))
 
 pub no-rate-far : NoRateFar
-no-rate-far P v y S G d X h M far i k r reaches =
+no-rate-far P v y S most d X h M far i k r reaches =
     within (offBy d X v i) (d *ℤ pos r) (*ℤ-nonneg d≥0 (pos-nonneg r)) (go reaches)
   where
     d≥0 : pos 0 ≤ℤ d
     d≥0 = ≤ℤ-trans (pos-nonneg 1) h
 
     -- its part of what all is off by
-    weighed : (P .w i *ℤ squared (offBy d X v i)) ≤ℤ (pos 4 *ℤ G *ℤ (d *ℤ d))
+    weighed : (P .w i *ℤ squared (offBy d X v i)) ≤ℤ (most *ℤ (d *ℤ d))
     weighed =
         ≤ℤ-trans (one-of (P .n) (λ m l. *ℤ-nonneg (S .weights m l) (sq-nonneg (offBy d X v m))) i k)
         (≤ℤ-trans
         (≤ℤ-by (rough P (offBy d X v)) (sum-nonneg (P .m) (λ f l. *ℤ-nonneg (S .constants f l) (sq-nonneg (form P f (offBy d X v))))) refl)
         far)
 
-    go : Reaches (P .w i) (P .lo i) (P .hi i) (v i) G r → squared (offBy d X v i) ≤ℤ squared (d *ℤ pos r)
+    go : Reaches (P .w i) (P .lo i) (P .hi i) (v i) most r → squared (offBy d X v i) ≤ℤ squared (d *ℤ pos r)
     go (by-weight w e) =
         ≤ℤ-of-mul w
         (ineq 5
-        (λ w e d g r. w ⊗ (e ⊗ e) ⊑ num 4 ⊗ g ⊗ (d ⊗ d) ⇒ num 4 ⊗ g ⊑ w ⊗ (r ⊗ r) ⇒ w ⊗ (e ⊗ e) ⊑ w ⊗ (d ⊗ r ⊗ (d ⊗ r)) by hyp 0 ⊞ hyp 1 ⊠ sqr d)
-        tt (P .w i) (offBy d X v i) d G (pos r) weighed e)
+        (λ w e d m r. w ⊗ (e ⊗ e) ⊑ m ⊗ (d ⊗ d) ⇒ m ⊑ w ⊗ (r ⊗ r) ⇒ w ⊗ (e ⊗ e) ⊑ w ⊗ (d ⊗ r ⊗ (d ⊗ r)) by hyp 0 ⊞ hyp 1 ⊠ sqr d)
+        tt (P .w i) (offBy d X v i) d most (pos r) weighed e)
     go (by-box a b) =
         ineq 6
         (λ d x v l u r.

@@ -13,8 +13,8 @@ offBy d X v i = X i -ℤ d *ℤ v i
 abbrev pub farness : Problem → (δ : ℕ → ℤ) → ℤ
 farness P δ = sum (P .n) (λ i. P .w i *ℤ squared (δ i)) +ℤ rough P δ
 
--- With a gap of G the rate v of a cell can be off by r at most: by its weight, if that is positive and w·r² is at least 4G, or by its box, if neither end
--- of that is farther from v than r.
-pub data Reaches (w lo hi v G : ℤ) (r : ℕ) : Type 0 where
-  by-weight : pos 0 <ℤ w → (pos 4 *ℤ G) ≤ℤ (w *ℤ squared (pos r)) → Reaches w lo hi v G r
-  by-box : (v -ℤ lo) ≤ℤ pos r → (hi -ℤ v) ≤ℤ pos r → Reaches w lo hi v G r
+-- Where all comes to `most` at most, the rate v of a cell can be off by r at most: by its weight, if that is positive and w·r² is at least `most`, or by
+-- its box, if neither end of that is farther from v than r.
+pub data Reaches (w lo hi v most : ℤ) (r : ℕ) : Type 0 where
+  by-weight : pos 0 <ℤ w → most ≤ℤ (w *ℤ squared (pos r)) → Reaches w lo hi v most r
+  by-box : (v -ℤ lo) ≤ℤ pos r → (hi -ℤ v) ≤ℤ pos r → Reaches w lo hi v most r

@@ -55,12 +55,12 @@ NoneFar =
     (P : Problem) (v y t : ℕ → ℤ) → Certified P v y t → Meets P (pos 1) v → (d : ℤ) (X : ℕ → ℤ) → pos 1 ≤ℤ d → Meets P d X
     → scaledLoss P d X ≤ℤ (d *ℤ d *ℤ loss P v) → farness P (offBy d X v) ≤ℤ (pos 4 *ℤ gap P v y t *ℤ (d *ℤ d))
 
--- Then none of its rates is off by more than reaches.
+-- Where all that it is off by comes to `most` at most, no rate is off by more than reaches.
 abbrev pub NoRateFar : Type 0
 NoRateFar =
-    (P : Problem) (v y : ℕ → ℤ) → NotNegative P y → (G d : ℤ) (X : ℕ → ℤ) → pos 1 ≤ℤ d → Meets P d X
-    → farness P (offBy d X v) ≤ℤ (pos 4 *ℤ G *ℤ (d *ℤ d))
-    → (i : ℕ) → i < P .n → (r : ℕ) → Reaches (P .w i) (P .lo i) (P .hi i) (v i) G r → pos (natAbs (offBy d X v i)) ≤ℤ (d *ℤ pos r)
+    (P : Problem) (v y : ℕ → ℤ) → NotNegative P y → (most d : ℤ) (X : ℕ → ℤ) → pos 1 ≤ℤ d → Meets P d X
+    → farness P (offBy d X v) ≤ℤ (most *ℤ (d *ℤ d))
+    → (i : ℕ) → i < P .n → (r : ℕ) → Reaches (P .w i) (P .lo i) (P .hi i) (v i) most r → pos (natAbs (offBy d X v i)) ≤ℤ (d *ℤ pos r)
 
 -- ---- differences
 

@@ -43,7 +43,7 @@ module _ (j : Job) (A : Allowed j) (v y : ℕ → ℤ) (I : EveryInBox j v) (H :
   close-of : NoneFar j v (lossOf j v) (gapOf j v y)
   close-of d X B = record {
     together = subst (λ (x : ℤ). x ≤ℤ (pos 4 *ℤ gapOf j v y *ℤ (d *ℤ d))) (farness-same j (offBy d X v)) (far d X B);
-    each = no-rate-far (problemOf j) v y signs (gapOf j v y) d X (B .at-least-one) (meets-same j A d X (B .meets)) (far d X B);
+    each = no-rate-far (problemOf j) v y signs (pos 4 *ℤ gapOf j v y) d X (B .at-least-one) (meets-same j A d X (B .meets)) (far d X B);
   }
 
 pub accepted-close : AcceptedClose
@@ -59,7 +59,7 @@ pub close-same : (j : Job) (v x : ℕ → ℤ) → ((i : ℕ) → i < j .cells �
 close-same j v x same F G close d X B = record {
   together = subst (λ (z : ℤ). z ≤ℤ (pos 4 *ℤ G *ℤ (d *ℤ d))) off-same (close d X B .together);
   each = λ i h r.
-      subst (λ (z : ℤ). Reaches (j .weight i) (j .floor i) (j .ceiling i) z G r → pos (natAbs (X i -ℤ d *ℤ z)) ≤ℤ (d *ℤ pos r)) (sym (same i h))
+      subst (λ (z : ℤ). Reaches (j .weight i) (j .floor i) (j .ceiling i) z (pos 4 *ℤ G) r → pos (natAbs (X i -ℤ d *ℤ z)) ≤ℤ (d *ℤ pos r)) (sym (same i h))
       (close d X B .each i h r);
 }
   where

@@ -20,12 +20,12 @@ pub record AsGood (j : Job) (F d : ℤ) (X : ℕ → ℤ) : Type 0 where
   pub meets : Meets j d X
   pub no-worse : scaledLossOf j d X ≤ℤ (d *ℤ d *ℤ F)
 
--- It "differs from ours by little": its differences "come to at most 4G", which is 4G·d² for X and d·v; and no rate of it is off by more than r, for every
--- whole number r with w·r² at least 4G, where the cell's weight w is positive, or by more than its box lets it.
-pub record Close (j : Job) (v : ℕ → ℤ) (G d : ℤ) (X : ℕ → ℤ) : Type 0 where
-  pub together : farnessOf j (offBy d X v) ≤ℤ (pos 4 *ℤ G *ℤ (d *ℤ d))
-  pub each : (i : ℕ) → i < j .cells → (r : ℕ) → Reaches (j .weight i) (j .floor i) (j .ceiling i) (v i) G r → pos (natAbs (offBy d X v i)) ≤ℤ (d *ℤ pos r)
+-- X / d "differs from ours by little": together its differences come to at most `most`, which is most·d² for X and d·v; and no rate of it is off by more
+-- than r, for every whole number r with w·r² at least `most`, where the cell's weight w is positive, or for which its box leaves no more room.
+pub record Close (j : Job) (v : ℕ → ℤ) (most d : ℤ) (X : ℕ → ℤ) : Type 0 where
+  pub together : farnessOf j (offBy d X v) ≤ℤ (most *ℤ (d *ℤ d))
+  pub each : (i : ℕ) → i < j .cells → (r : ℕ) → Reaches (j .weight i) (j .floor i) (j .ceiling i) (v i) most r → pos (natAbs (offBy d X v i)) ≤ℤ (d *ℤ pos r)
 
--- Every table that is as good is close to ours.
+-- Every table that is as good is close to ours: "at most 4G".
 abbrev pub NoneFar : Job → (v : ℕ → ℤ) (F G : ℤ) → Type 0
-NoneFar j v F G = (d : ℤ) (X : ℕ → ℤ) → AsGood j F d X → Close j v G d X
+NoneFar j v F G = (d : ℤ) (X : ℕ → ℤ) → AsGood j F d X → Close j v (pos 4 *ℤ G) d X

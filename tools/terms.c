@@ -2,47 +2,29 @@
  * prints the gap and its largest terms, each with its share and what to do about it. It vouches for nothing itself: a change that it names was tried
  * alone, and the gap that it names is what bench_terms told then. */
 #include <inttypes.h>
-#include <stdbool.h>
 #include <stdio.h>
 #include <stdlib.h>
 
-#include "bench.h"
+#include "table.h"
 
 /* The gap may pass 64 bits. */
 __extension__ typedef unsigned __int128 wide;
 
-enum { MOST_INPUT = 8192, MOST_PLACES = BENCH_MOST_CELLS + BENCH_MOST_LINKS, MOST_MULTIPLIER = 1000000000, GRID = 5, SHOWN = 5 };
+enum { MOST_MULTIPLIER = 1000000000, SHOWN = 5 };
 
-/* The words of a cell in a job, and of a place among the terms. */
-enum { WEIGHT = 1, FLOOR = 2, CEILING = 3, CELL_WORDS = 4 };
+/* The words of a place among the terms. */
 enum { TERM = 0, RESIDUAL = 1, SIDE = 2, TERM_WORDS = 3 };
 
-/* A job and its proposal, whose numbers, values and then multipliers, stand at the places of their terms. */
-struct table {
-    const uint8_t *job;
-    size_t job_bytes;
-    int64_t words[BENCH_MOST_JOB_WORDS];
-    int64_t cells, links, columns, tolerance;
-    const int64_t *cell;
-    const int64_t *link[BENCH_MOST_LINKS];
-    int64_t number[MOST_PLACES];
+/* A table that is held back, and what its gap is made of. */
+struct held {
+    struct table table;
     int64_t term[BENCH_MOST_TERM_WORDS];
     wide gap;
 };
 
-static int64_t places(const struct table *t)
+static const int64_t *term_of(const struct held *h, int64_t place)
 {
-    return t->cells + t->links;
-}
-
-static const int64_t *cell_of(const struct table *t, int64_t cell)
-{
-    return t->cell + CELL_WORDS * cell;
-}
-
-static const int64_t *term_of(const struct table *t, int64_t place)
-{
-    return t->term + TERM_WORDS * place;
+    return h->term + TERM_WORDS * place;
 }
 
 static int64_t least(int64_t a, int64_t b)
@@ -98,68 +80,15 @@ struct change {
 };
 
 /* The best that a number alone can do on its way: of steps by 1, by 2 and so on doubled, and by the whole way. False where none makes the gap smaller. */
-static bool find_change(struct table *t, int64_t place, bool down, int64_t way, struct change *change)
+static bool find_change(struct held *h, int64_t place, bool down, int64_t way, struct change *change)
 {
-    int64_t now = t->number[place];
+    int64_t now = h->table.number[place];
     change->now = change->then = now;
-    change->gap = t->gap;
+    change->gap = h->gap;
     for (int64_t step = 1; step <= way; step = step < way ? least(2 * step, way) : way + 1)
-        if (smaller_with(t, place, down ? -step : step, &change->gap))
+        if (smaller_with(&h->table, place, down ? -step : step, &change->gap))
             change->then = down ? now - step : now + step;
     return change->then != now;
-}
-
-/* ---- the input */
-
-static bool take_number(const uint8_t *bytes, size_t count, size_t *at, int64_t *number)
-{
-    *number = 0;
-    for (int bits = 0; bits < 63 && *at < count; bits += 7) {
-        uint8_t byte = bytes[(*at)++];
-        *number |= (int64_t)(byte % 128) << bits;
-        if (byte < 128)
-            return true;
-    }
-    return false;
-}
-
-/* Where a job's numbers stand among its words (bench.h, PACKS). */
-static void find_fields(struct table *t)
-{
-    const int64_t *word = t->words;
-    bool grid = word[3] == GRID;
-    t->cells = word[2];
-    t->columns = grid ? word[5] : 0;
-    word += grid ? 10 : 5;
-    t->tolerance = *word++;
-    t->cell = word;
-    word += CELL_WORDS * t->cells;
-    t->links = *word++;
-    for (int64_t l = 0; l < t->links; l++) {
-        t->link[l] = word;
-        word += 2 + 2 * word[0];
-    }
-}
-
-static bool read_table(const uint8_t *input, size_t count, struct table *t)
-{
-    uint64_t answer[BENCH_ANSWER_WORDS];
-    int64_t length;
-    size_t at = 0;
-    if (!take_number(input, count, &at, &length) || (uint64_t)length > count - at)
-        return false;
-    t->job = input + at;
-    t->job_bytes = (size_t)length;
-    at += t->job_bytes;
-    if (BENCH_NUMBER(bench_read(t->job, t->job_bytes, t->words, BENCH_MOST_JOB_WORDS, answer, BENCH_ANSWER_WORDS)) != BENCH_DONE)
-        return false;
-    find_fields(t);
-    if (!ask(t, input + at, count - at, t->term, &t->gap))
-        return false;
-    for (int64_t place = 0; place < places(t); place++)
-        if (!take_number(input, count, &at, &t->number[place]))
-            return false;
-    return true;
 }
 
 /* ---- links */
@@ -216,11 +145,11 @@ static int64_t free_way(const struct table *t, int64_t cell, bool down)
 }
 
 /* How far a value should go against its residual: as far as it can, or less where its weight alone asks for less. */
-static int64_t value_way(const struct table *t, int64_t cell)
+static int64_t value_way(const struct held *h, int64_t cell)
 {
-    const int64_t *term = term_of(t, cell);
-    int64_t way = free_way(t, cell, term[RESIDUAL] > 0);
-    return term[SIDE] == BENCH_BY_BOX ? way : least(way, (llabs(term[RESIDUAL]) - 1) / (2 * cell_of(t, cell)[WEIGHT]) + 1);
+    const int64_t *term = term_of(h, cell);
+    int64_t way = free_way(&h->table, cell, term[RESIDUAL] > 0);
+    return term[SIDE] == BENCH_BY_BOX ? way : least(way, (llabs(term[RESIDUAL]) - 1) / (2 * cell_of(&h->table, cell)[WEIGHT]) + 1);
 }
 
 /* How far a multiplier should go, raised or lowered, to bring the residual of a cell with this coefficient to 0. */
@@ -240,16 +169,6 @@ static const char *wide_text(wide number, char text[40])
         *--at = (char)('0' + (int)(number % 10));
     while ((number /= 10) > 0);
     return at;
-}
-
-static void say_place(const struct table *t, int64_t place)
-{
-    if (place >= t->cells)
-        printf("link %" PRId64, place - t->cells);
-    else if (t->columns == 0)
-        printf("cell %" PRId64, place);
-    else
-        printf("cell %" PRId64 " (row %" PRId64 ", column %" PRId64 ")", place, place / t->columns, place % t->columns);
 }
 
 /* What parts a term from what can be done about it, and that from what can be done instead. */
@@ -279,15 +198,16 @@ static void say_value(const struct table *t, int64_t cell, bool down, int64_t th
 
 /* The first link whose multiplier helps, raised or lowered against the cell's residual. One that is raised has to hold the value where it is: a link
  * with room for a step of the value has no say in it. */
-static void say_multiplier(struct table *t, int64_t cell, bool down, int *said)
+static void say_multiplier(struct held *h, int64_t cell, bool down, int *said)
 {
-    int64_t residual = term_of(t, cell)[RESIDUAL];
+    const struct table *t = &h->table;
+    int64_t residual = term_of(h, cell)[RESIDUAL];
     struct change change;
     for (int64_t l = 0; l < t->links; l++) {
         int64_t c = coefficient(t, l, cell);
         if (c == 0 || ((residual > 0) == (c > 0)) != down || (!down && let_go(t, l, cell, residual > 0, 1) > 0))
             continue;
-        if (!find_change(t, t->cells + l, down, multiplier_way(t, l, down, residual, c), &change))
+        if (!find_change(h, t->cells + l, down, multiplier_way(t, l, down, residual, c), &change))
             continue;
         say_or(said);
         printf("%s the multiplier %" PRId64 " of link %" PRId64 " towards %" PRId64, verb(down), change.now, l, change.then);
@@ -296,19 +216,20 @@ static void say_multiplier(struct table *t, int64_t cell, bool down, int *said)
     }
 }
 
-static void advise_cell(struct table *t, int64_t cell)
+static void advise_cell(struct held *h, int64_t cell)
 {
-    bool down = term_of(t, cell)[RESIDUAL] > 0;
-    int64_t way = value_way(t, cell);
+    const struct table *t = &h->table;
+    bool down = term_of(h, cell)[RESIDUAL] > 0;
+    int64_t way = value_way(h, cell);
     struct change change;
     int said = 0;
-    if (find_change(t, cell, down, way, &change)) {
+    if (find_change(h, cell, down, way, &change)) {
         say_or(&said);
         say_value(t, cell, down, change.then);
         say_gap(&change);
     }
-    say_multiplier(t, cell, false, &said);
-    say_multiplier(t, cell, true, &said);
+    say_multiplier(h, cell, false, &said);
+    say_multiplier(h, cell, true, &said);
     if (said == 0 && way == 0) {
         printf("; its value %" PRId64 " is %s, but link %" PRId64 " holds it", change.now, down ? "high" : "low", holding_link(t, cell, down));
     } else if (said == 0) {
@@ -319,14 +240,15 @@ static void advise_cell(struct table *t, int64_t cell)
 }
 
 /* The first of a link's cells whose value helps on its way to the bound. */
-static void say_nearer(struct table *t, int64_t link, int *said)
+static void say_nearer(struct held *h, int64_t link, int *said)
 {
+    const struct table *t = &h->table;
     const int64_t *word = t->link[link];
     struct change change;
     for (int64_t m = 0; m < word[0]; m++) {
         int64_t cell = word[1 + 2 * m];
         bool down = word[2 + 2 * m] < 0;
-        if (!find_change(t, cell, down, free_way(t, cell, down), &change))
+        if (!find_change(h, cell, down, free_way(t, cell, down), &change))
             continue;
         say_or(said);
         printf("%s the value %" PRId64 " of ", verb(down), change.now);
@@ -337,28 +259,24 @@ static void say_nearer(struct table *t, int64_t link, int *said)
     }
 }
 
-static void advise_link(struct table *t, int64_t link)
+static void advise_link(struct held *h, int64_t link)
 {
+    const struct table *t = &h->table;
     int64_t place = t->cells + link, now = t->number[place];
     struct change change;
     int said = 0;
     printf(", its multiplier %" PRId64 " times the room between its sum %" PRId64 " and its bound %" PRId64, now, sum_of(t, link), bound_of(t, link));
-    if (find_change(t, place, true, now, &change)) {
+    if (find_change(h, place, true, now, &change)) {
         say_or(&said);
         printf("lower the multiplier towards %" PRId64, change.then);
         say_gap(&change);
     }
-    say_nearer(t, link, &said);
+    say_nearer(h, link, &said);
     if (said == 0)
         printf("; lower the multiplier or raise the sum with others: alone they make the gap no smaller");
 }
 
-/* ---- lines as ./run has them: a field, then what it says */
-
-static void begin_line(const char *field)
-{
-    printf("  %-10s ", field);
-}
+/* ---- lines */
 
 /* A share of the gap in percent, to the nearest tenth. */
 static void begin_share(wide part, wide gap)
@@ -369,60 +287,59 @@ static void begin_share(wide part, wide gap)
     begin_line(field);
 }
 
-static void print_term(struct table *t, int64_t place)
+static void print_term(struct held *h, int64_t place)
 {
-    const int64_t *term = term_of(t, place);
-    begin_share((wide)term[TERM], t->gap);
-    say_place(t, place);
+    const int64_t *term = term_of(h, place);
+    begin_share((wide)term[TERM], h->gap);
+    say_place(&h->table, place);
     printf(": %" PRId64, term[TERM]);
     if (term[SIDE] == BENCH_BY_LINK) {
-        advise_link(t, place - t->cells);
+        advise_link(h, place - h->table.cells);
     } else {
         printf(term[SIDE] == BENCH_BY_BOX ? ", by its box" : ", by its weight");
-        advise_cell(t, place);
+        advise_cell(h, place);
     }
     printf("\n");
 }
 
 /* The largest terms above 0, the lowest place first where several are equal, and the others together. */
-static void print_terms(struct table *t)
+static void print_terms(struct held *h)
 {
     bool shown[MOST_PLACES] = {false};
-    wide rest = t->gap;
+    wide rest = h->gap;
     int others = 0;
     for (int count = 0; count < SHOWN && rest > 0; count++) {
         int64_t largest = -1;
-        for (int64_t place = 0; place < places(t); place++)
-            if (!shown[place] && (largest < 0 || term_of(t, place)[TERM] > term_of(t, largest)[TERM]))
+        for (int64_t place = 0; place < places(&h->table); place++)
+            if (!shown[place] && (largest < 0 || term_of(h, place)[TERM] > term_of(h, largest)[TERM]))
                 largest = place;
-        print_term(t, largest);
+        print_term(h, largest);
         shown[largest] = true;
-        rest -= (wide)term_of(t, largest)[TERM];
+        rest -= (wide)term_of(h, largest)[TERM];
     }
-    for (int64_t place = 0; place < places(t); place++)
-        others += !shown[place] && term_of(t, place)[TERM] > 0;
+    for (int64_t place = 0; place < places(&h->table); place++)
+        others += !shown[place] && term_of(h, place)[TERM] > 0;
     if (others > 0) {
-        begin_share(rest, t->gap);
+        begin_share(rest, h->gap);
         printf(others == 1 ? "1 further term\n" : "%d further terms, together\n", others);
     }
 }
 
 int main(int count, char **arguments)
 {
-    static uint8_t input[MOST_INPUT];
-    static struct table table;
+    static struct held held;
+    const struct table *t = &held.table;
     char text[40];
-    size_t bytes = fread(input, 1, sizeof input, stdin);
-    if (count != 2 || !read_table(input, bytes, &table)) {
+    if (count != 2 || !read_table(&held.table) || !ask(t, t->proposal, t->proposal_bytes, held.term, &held.gap)) {
         fprintf(stderr, "terms: there is no table here whose gap can be told\n");
         return 1;
     }
     begin_line(arguments[1]);
     printf("place: the largest term of the gap: ");
-    say_place(&table, strtoll(arguments[1], NULL, 10));
+    say_place(t, strtoll(arguments[1], NULL, 10));
     printf("\n");
-    begin_line(wide_text(table.gap, text));
-    printf("gap G, the sum of its terms; the tolerance T is %" PRId64 "; each change below was tried alone\n", table.tolerance);
-    print_terms(&table);
+    begin_line(wide_text(held.gap, text));
+    printf("gap G, the sum of its terms; the tolerance T is %" PRId64 "; each change below was tried alone\n", t->tolerance);
+    print_terms(&held);
     return 0;
 }

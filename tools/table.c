@@ -1,0 +1,95 @@
+/* See table.h. */
+#include <inttypes.h>
+#include <stdio.h>
+
+#include "table.h"
+
+enum { GRID = 5 };
+
+int64_t places(const struct table *t)
+{
+    return t->cells + t->links;
+}
+
+const int64_t *cell_of(const struct table *t, int64_t cell)
+{
+    return t->cell + CELL_WORDS * cell;
+}
+
+/* ---- the input */
+
+static bool take_number(const uint8_t *bytes, size_t count, size_t *at, int64_t *number)
+{
+    *number = 0;
+    for (int bits = 0; bits < 63 && *at < count; bits += 7) {
+        uint8_t byte = bytes[(*at)++];
+        *number |= (int64_t)(byte % 128) << bits;
+        if (byte < 128)
+            return true;
+    }
+    return false;
+}
+
+/* The two packs: a length, so many bytes of the job, and the rest. */
+static bool find_packs(struct table *t, size_t count)
+{
+    int64_t length;
+    size_t at = 0;
+    if (!take_number(t->input, count, &at, &length) || (uint64_t)length > count - at)
+        return false;
+    t->job = t->input + at;
+    t->job_bytes = (size_t)length;
+    t->proposal = t->job + t->job_bytes;
+    t->proposal_bytes = count - at - t->job_bytes;
+    return true;
+}
+
+/* Where a job's numbers stand among its words (bench.h, PACKS). */
+static void find_fields(struct table *t)
+{
+    const int64_t *word = t->words;
+    bool grid = word[3] == GRID;
+    t->cells = word[2];
+    t->columns = grid ? word[5] : 0;
+    word += grid ? 10 : 5;
+    t->tolerance = *word++;
+    t->cell = word;
+    word += CELL_WORDS * t->cells;
+    t->links = *word++;
+    for (int64_t l = 0; l < t->links; l++) {
+        t->link[l] = word;
+        word += 2 + 2 * word[0];
+    }
+}
+
+bool read_table(struct table *t)
+{
+    uint64_t answer[BENCH_ANSWER_WORDS];
+    size_t at = 0;
+    if (!find_packs(t, fread(t->input, 1, sizeof t->input, stdin)))
+        return false;
+    if (BENCH_NUMBER(bench_read(t->job, t->job_bytes, t->words, BENCH_MOST_JOB_WORDS, answer, BENCH_ANSWER_WORDS)) != BENCH_DONE)
+        return false;
+    find_fields(t);
+    for (int64_t place = 0; place < places(t); place++)
+        if (!take_number(t->proposal, t->proposal_bytes, &at, &t->number[place]))
+            return false;
+    return true;
+}
+
+/* ---- words */
+
+void begin_line(const char *field)
+{
+    printf("  %-10s ", field);
+}
+
+void say_place(const struct table *t, int64_t place)
+{
+    if (place >= t->cells)
+        printf("link %" PRId64, place - t->cells);
+    else if (t->columns == 0)
+        printf("cell %" PRId64, place);
+    else
+        printf("cell %" PRId64 " (row %" PRId64 ", column %" PRId64 ")", place, place / t->columns, place % t->columns);
+}

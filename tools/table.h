@@ -1,0 +1,36 @@
+/* What the programs beside share: an input of the checking program, read through the library, and lines as ./run has them. */
+#ifndef TABLE_H
+#define TABLE_H
+
+#include <stdbool.h>
+
+#include "bench.h"
+
+enum { MOST_INPUT = 8192, MOST_PLACES = BENCH_MOST_CELLS + BENCH_MOST_LINKS };
+
+/* The words of a cell in a job. */
+enum { WEIGHT = 1, FLOOR = 2, CEILING = 3, CELL_WORDS = 4 };
+
+/* A job and its proposal, whose numbers, values and then multipliers, stand at the places of their terms. A line has 0 columns. */
+struct table {
+    uint8_t input[MOST_INPUT];
+    const uint8_t *job, *proposal;
+    size_t job_bytes, proposal_bytes;
+    int64_t words[BENCH_MOST_JOB_WORDS];
+    int64_t cells, links, columns, tolerance;
+    const int64_t *cell;
+    const int64_t *link[BENCH_MOST_LINKS];
+    int64_t number[MOST_PLACES];
+};
+
+/* Reads standard input. False where no job can be read, or the proposal ends early; what else is wrong with a proposal the library tells. */
+bool read_table(struct table *t);
+
+int64_t places(const struct table *t);
+const int64_t *cell_of(const struct table *t, int64_t cell);
+
+/* A line is a field and then what it says. */
+void begin_line(const char *field);
+void say_place(const struct table *t, int64_t place);
+
+#endif

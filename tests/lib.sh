@@ -41,12 +41,15 @@ run_x86() {
   if on_x86; then "$@"; else qemu-x86_64 -cpu max,-erms -L /usr/x86_64-linux-gnu "$@"; fi
 }
 
-# make_archive: says in `archive` where the library's archive is: BENCH_ARCHIVE if that is set, else what the prover writes.
+# make_archive: says in `archive` where the library's archive is: BENCH_ARCHIVE if that is set, else what the prover writes. Writing takes half a minute, so
+# it is done only where the archive is not of what is proved now: the prover's mark of that is kept beside it.
 make_archive() {
   archive=${BENCH_ARCHIVE:-target/staticlib/libbench.a}
   [ -n "${BENCH_ARCHIVE:-}" ] && return 0
   need_prover
-  rt staticlib bench
+  rt check bench || return
+  [ -f "$archive" ] && cmp -s target/stamp/bench "$archive.of" && return 0
+  rt staticlib bench && cp target/stamp/bench "$archive.of"
 }
 
 # need_program NAME: proves the program NAME and what it rests on, and so builds target/bin/NAME. Where nothing changed that takes no time.

@@ -1,5 +1,6 @@
 """Loss, gap and the check's verdict by document 01 ("Loss and gap", "Order"), W-202 and W-205, and how far two tables are apart by W-208, in Python's
 whole numbers, which have no limit and never wrap."""
+from math import isqrt
 from packs import Refused, job_of, proposal_of
 
 ROWS = {1: [-1, 1], 2: [1, -2, 1], 3: [-1, 3, -3, 1], 4: [1, -4, 6, -4, 1]}
@@ -28,6 +29,10 @@ def loss(job, v, differences=differences):
 def farness(job, off, differences=differences):
     """Of what one table is off another: the weighted squares, and each constant times the squared differences (W-208)."""
     return sum(w * x * x for x, (_, w, _, _) in zip(off, job.cells)) + roughness(job, off, differences)
+
+def least_off(weight, most):
+    """The least whole number whose square times a positive weight is at least `most` (W-208: most is 4G)."""
+    return isqrt(-(-most // weight) - 1) + 1 if most > 0 else 0
 
 def residuals(job, v, multipliers, differences=differences):
     r = [2 * w * (x - u) for x, (u, w, _, _) in zip(v, job.cells)]

@@ -37,12 +37,12 @@ static int64_t reach_of(const struct table *t, int64_t cell, int64_t gap)
     return high;
 }
 
-/* The lowest place of those that are equal. */
-static int64_t largest_of(const struct table *t, const int64_t *reach)
+/* The largest of the rates that have at least a weight, at the lowest place of those that are equal. Every job has a positive weight. */
+static int64_t largest_of(const struct table *t, const int64_t *reach, int64_t weight)
 {
-    int64_t largest = 0;
-    for (int64_t cell = 1; cell < t->cells; cell++)
-        if (reach[cell] > reach[largest])
+    int64_t largest = -1;
+    for (int64_t cell = 0; cell < t->cells; cell++)
+        if (cell_of(t, cell)[WEIGHT] >= weight && (largest < 0 || reach[cell] > reach[largest]))
             largest = cell;
     return largest;
 }
@@ -71,18 +71,26 @@ static void print_numbers(const struct table *t, const int64_t *number, const ch
     }
 }
 
-static void print_largest(const struct table *t, const int64_t *reach)
+static void print_rate(const struct table *t, const int64_t *reach, int64_t cell, const char *what, const char *more)
 {
-    int64_t cell = largest_of(t, reach);
     const int64_t *job = cell_of(t, cell);
     begin_numbers(reach + cell, 1);
-    printf("the largest of these, at ");
+    printf("%s, at ", what);
     say_place(t, cell);
     if (reach[cell] < by_box(t, cell))
         printf(", by its weight %" PRId64, job[WEIGHT]);
     else
         printf(", by its box %" PRId64 "..%" PRId64 "%s", job[FLOOR], job[CEILING], job[WEIGHT] == 0 ? " alone, since its weight is 0" : "");
-    printf(": no table that meets the job with a loss of at most F differs from this one by more in any rate\n");
+    printf("%s\n", more);
+}
+
+/* Where a rate without a weight is the farthest, one that has a weight is told too. */
+static void print_largest(const struct table *t, const int64_t *reach)
+{
+    int64_t cell = largest_of(t, reach, 0);
+    print_rate(t, reach, cell, "the largest of these", ": no table that meets the job with a loss of at most F differs from this one by more in any rate");
+    if (cell_of(t, cell)[WEIGHT] == 0)
+        print_rate(t, reach, largest_of(t, reach, 1), "the largest of those with a weight above 0", "");
 }
 
 static bool accepted(const struct table *t, int64_t *gap)

@@ -7,12 +7,11 @@ It prints what they have among them, and ends with 1 where they lack a kind with
 """
 import sys
 from collections import Counter
-from math import isqrt
 from pathlib import Path
 
 sys.path.insert(0, str(Path(__file__).resolve().parents[1]))
 from packs import Reader, Refused, job_of, proposal_of
-from verdict import verdict
+from verdict import least_off, verdict
 
 MOST_INPUT = 8192
 PROMISE = 'no table that meets the job with a loss of at most F differs from this one by more in any rate'
@@ -35,18 +34,17 @@ class Rate:
         self.box = self.off = max(v - lo, hi - v)
         self.by = f'its box {lo}..{hi}' + (' alone, since its weight is 0' if self.weight == 0 else '')
         if self.weight > 0:
-            root = isqrt(4 * gap // self.weight)
-            self.rounded = self.weight * root ** 2 < 4 * gap
-            self.least = root + self.rounded
+            self.least = least_off(self.weight, 4 * gap)
+            self.rounded = self.weight * self.least ** 2 > 4 * gap
             if self.least < self.box:
                 self.off, self.by = self.least, f'its weight {self.weight}'
 
     def by_weight(self):
         return self.off < self.box
 
-def largest(rates):
-    """The lowest place of the largest."""
-    return max(range(len(rates)), key=lambda i: (rates[i].off, -i))
+def largest(rates, weight=0):
+    """The lowest place of the largest, of those that have at least this weight."""
+    return max((i for i, rate in enumerate(rates) if rate.weight >= weight), key=lambda i: (rates[i].off, -i))
 
 # ---- what is printed
 
@@ -59,12 +57,16 @@ def by_rows(job, numbers, what, more=''):
     columns = job.shape.columns
     return ''.join(line(numbers[row * columns:][:columns], f'{what} of row {row}{more}') for row in range(job.shape.rows))
 
-def printed(job, v, rates):
-    at = largest(rates)
+def one(job, rates, at, what, more=''):
     row, column = divmod(at, job.shape.columns)
     place = f'cell {at} (row {row}, column {column})' if job.is_grid() else f'cell {at}'
-    return (by_rows(job, v, 'values') + by_rows(job, [rate.off for rate in rates], 'how far off each rate', ' can be, at most')
-            + line([rates[at].off], f'the largest of these, at {place}, by {rates[at].by}: {PROMISE}'))
+    return line([rates[at].off], f'{what}, at {place}, by {rates[at].by}{more}')
+
+def printed(job, v, rates):
+    at = largest(rates)
+    lines = by_rows(job, v, 'values') + by_rows(job, [rate.off for rate in rates], 'how far off each rate', ' can be, at most')
+    lines += one(job, rates, at, 'the largest of these', ': ' + PROMISE)
+    return lines if rates[at].weight > 0 else lines + one(job, rates, largest(rates, 1), 'the largest of those with a weight above 0')
 
 # ---- what a comparison meets
 

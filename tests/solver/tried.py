@@ -3,10 +3,9 @@
 If a table is accepted with F and G, the farness from it of any table that meets the job with a loss of at most F is at most 4*G. So a rate of positive
 weight w is off by at most r, for each whole r with w*r^2 at least 4*G; and no rate is off by more than its box allows."""
 from fractions import Fraction
-from math import isqrt
 from solver.parts import scaled_loss
 from solver.ways import opposite, random_tables
-from verdict import farness
+from verdict import farness, least_off
 
 class Other:
     """Another table: by how many parts each rate is off the accepted one, the farness, and the loss."""
@@ -39,15 +38,11 @@ class Tried:
 
 # ---- the statement
 
-def least(weight, amount):
-    """The least whole r with weight times r^2 at least the amount."""
-    return isqrt(-(-amount // weight) - 1) + 1 if amount > 0 else 0
-
 def together(tried, other, times=4):
     return other.farness <= times * tried.gap
 
 def by_weight(tried, other, times=4):
-    return all(abs(x) <= other.table.d * least(w, times * tried.gap) for x, (_, w, _, _) in zip(other.off, tried.job.cells) if w > 0)
+    return all(abs(x) <= other.table.d * least_off(w, times * tried.gap) for x, (_, w, _, _) in zip(other.off, tried.job.cells) if w > 0)
 
 def by_box(tried, other, end=max):
     return all(abs(x) <= other.table.d * end(v - lo, hi - v) for x, v, (_, _, lo, hi) in zip(other.off, tried.values, tried.job.cells))

@@ -1,23 +1,18 @@
 -- How far off a table can be (W-208). The middle of X / d and v, (X + d v) / 2d, is off from v by as much as X / d is, in parts half as large. It meets the
 -- problem, so the theorem holds there; and its loss is taken apart at v as that of X is, with twice the slope. What remains is the bound (`off-by`).
-use mathlib.Core.Path.{_≡_, refl, sym, ap, ap₂, subst, subst₂, fun-ext, _∙_}
-use mathlib.Core.Bool.{Bool, true, false}
-use Prim.Native.Nat.{ℕ, suc, _*_, _≤_, _<_, zero-le}
-use native.Mathlib.Nat as N
-use borrow.Author.Tests.{ltb-true, ltb-false}
-use lib.Dec.{ltb}
-use lib.IntN.{ℤ, pos, natAbs, _+ℤ_, _-ℤ_, _*ℤ_, +ℤ-comm}
+use mathlib.Core.Path.{_≡_, refl, sym, ap, ap₂, subst, fun-ext, _∙_}
+use Prim.Native.Nat.{ℕ, _<_}
+use lib.IntN.{ℤ, pos, _+ℤ_, _-ℤ_, _*ℤ_}
 use lib.Signed.{_≤ℤ_}
-use Rattle.whole.specs.Sum.{sum}
 use Rattle.whole.proofs.Solve.{num, _⊕_, _⊖_, _⊗_, _≗_, ring}
-use Rattle.whole.proofs.Order.{≤ℤ-trans, ≤ℤ-by, ≤ℤ-of-mul, nat-of, *ℤ-nonneg, sq-nonneg, pos-nonneg, pos-mono, pos-le}
+use Rattle.whole.proofs.Order.{≤ℤ-trans, ≤ℤ-by, ≤ℤ-of-mul, *ℤ-nonneg, sq-nonneg, pos-nonneg}
 use Rattle.whole.proofs.Inequality.{_⊑_, _⇒_, _by_, hyp, nat, sqr, _⊞_, _⊠_, ineq}
-use Rattle.whole.proofs.Sums.{sum-suc, sum-cong, sum-ext, sum-nonneg}
-use Rattle.whole.proofs.Parts.{sum-longer}
+use Rattle.whole.proofs.Magnitude.{abs-by-square}
+use Rattle.whole.proofs.Sums.{sum-cong, sum-ext, sum-nonneg}
+use Rattle.whole.proofs.Parts.{term-in-sum}
 use Rattle.certificate.specs.Problem.{Problem, squared, form, link, rough, loss, scaledLoss, gap, Meets}
 use Rattle.certificate.specs.Far.{offBy, farness, Reaches, by-weight, by-box}
 use Rattle.certificate.specs.Promises.{NoneFar, NoRateFar}
-use Rattle.certificate.proofs.Terms.{squared-natAbs}
 use Rattle.certificate.proofs.Expansion.{slope, apart, loss-apart}
 use Rattle.certificate.proofs.Certificate.{lower-bound}
 
@@ -82,32 +77,9 @@ farness-below P same =
 
 -- ---- a rate by itself
 
--- no term of a sum of such as are not negative is above the sum
-one-of : (n : ℕ) {f : ℕ → ℤ} → ((i : ℕ) → i < n → pos 0 ≤ℤ f i) → (i : ℕ) → i < n → f i ≤ℤ sum n f
-one-of n {f} h i k =
-    ≤ℤ-trans (≤ℤ-by (sum i f) (sum-nonneg i (λ m l. h m (N.lt-trans l k))) (sum-suc i f ∙ +ℤ-comm (sum i f) (f i)))
-    (sum-longer (suc i) n k h)
-
--- of two squares the smaller is that of the smaller
-root : (a b : ℕ) → a * a ≤ b * b → a ≤ b
-root a b h = go (ltb b a) refl
-  where
-    go : (t : Bool) → ltb b a ≡ t → a ≤ b
-    go true e =
-        let l : b < a = ltb-true b a e in
-        absurd (N.not-le-of-lt (N.lt-of-le-of-lt (N.mul-le-mul-right b (N.le-of-lt l)) (N.mul-lt-mul-of-pos-left l (N.lt-of-le-of-lt zero-le l))) h)
-    go false e = ltb-false b a e
-
--- |e| ≤ m where e² ≤ m² and m is not negative
-within : (e m : ℤ) → pos 0 ≤ℤ m → squared e ≤ℤ squared m → pos (natAbs e) ≤ℤ m
-within e m p h =
-    let n = nat-of m p in
-    subst (λ (x : ℤ). pos (natAbs e) ≤ℤ x) (sym (n .1))
-    (pos-mono (root (natAbs e) (n .0) (pos-le (subst₂ (λ (x z : ℤ). x ≤ℤ z) (squared-natAbs e) (ap squared (n .1)) h))))
-
 pub no-rate-far : NoRateFar
 no-rate-far P v y S most d X h M far i k r reaches =
-    within (offBy d X v i) (d *ℤ pos r) (*ℤ-nonneg d≥0 (pos-nonneg r)) (go reaches)
+    abs-by-square (offBy d X v i) (d *ℤ pos r) (*ℤ-nonneg d≥0 (pos-nonneg r)) (go reaches)
   where
     d≥0 : pos 0 ≤ℤ d
     d≥0 = ≤ℤ-trans (pos-nonneg 1) h
@@ -115,7 +87,7 @@ no-rate-far P v y S most d X h M far i k r reaches =
     -- its part of what all is off by
     weighed : (P .w i *ℤ squared (offBy d X v i)) ≤ℤ (most *ℤ (d *ℤ d))
     weighed =
-        ≤ℤ-trans (one-of (P .n) (λ m l. *ℤ-nonneg (S .weights m l) (sq-nonneg (offBy d X v m))) i k)
+        ≤ℤ-trans (term-in-sum (P .n) (λ m l. *ℤ-nonneg (S .weights m l) (sq-nonneg (offBy d X v m))) i k)
         (≤ℤ-trans
         (≤ℤ-by (rough P (offBy d X v)) (sum-nonneg (P .m) (λ f l. *ℤ-nonneg (S .constants f l) (sq-nonneg (form P f (offBy d X v))))) refl)
         far)

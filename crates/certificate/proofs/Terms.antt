@@ -12,6 +12,7 @@ use lib.Signed.{_≤ℤ_, _<ℤ_, ltZ, leZ, ltZ-yes, leZ-yes, ≤ℤ-refl}
 use mir.Facts.{and-yes, yes-and}
 use Rattle.whole.proofs.Ring.{*ℤ-pos1}
 use Rattle.whole.proofs.Order.{≤ℤ-sub, ≤ℤ-trans, ≤ℤ-of-eq, ≤ℤ-or->, <ℤ-le, +ℤ-nonneg, *ℤ-nonneg, *ℤ-pos, sq-nonneg, nat-of, nonneg-of-mul, pos-nonneg, pos-mono, pos-le, pos-mono-<, pos-lt}
+use Rattle.whole.proofs.Magnitude.{natAbs-sq}
 use Rattle.whole.proofs.Sums.{sum-nonneg}
 use Rattle.certificate.specs.Problem.{squared, link, residual}
 use Rattle.certificate.specs.Terms.{boxTerm, quotientUp, squareTerm, smaller, squareCounts, cellTerm, Covers, by-floor, by-ceiling, flat, by-square}
@@ -53,17 +54,13 @@ box-nonneg (negsuc r) lo hi v h k = *ℤ-nonneg (pos-nonneg (suc r)) (≤ℤ-sub
 
 -- ---- the square term
 
-pub squared-natAbs : (r : ℤ) → squared r ≡ pos (natAbs r * natAbs r)
-squared-natAbs (pos n) = refl
-squared-natAbs (negsuc n) = refl
-
 four-times : {w : ℕ} → 0 < w → 0 < 4 * w
 four-times h = omega arith
 
 pub square-covers : (w r lo hi v : ℤ) → pos 0 <ℤ w → Covers w r lo hi v (squareTerm w r)
 square-covers (pos w) r lo hi v h =
     by-square h
-    (subst (λ (x : ℤ). x ≤ℤ (pos 4 *ℤ pos w *ℤ squareTerm (pos w) r)) (sym (squared-natAbs r))
+    (subst (λ (x : ℤ). x ≤ℤ (pos 4 *ℤ pos w *ℤ squareTerm (pos w) r)) (sym (natAbs-sq r))
     (pos-mono (quotient-covers (natAbs r * natAbs r) (4 * w) (four-times (pos-lt h)))))
 square-covers (negsuc w) r lo hi v h = absurd (h .lt)
 
@@ -75,7 +72,7 @@ square-least (pos w) r t h k = go (nat-of t (nonneg-of-mul (*ℤ-pos {a = pos 4}
         subst (λ (x : ℤ). squareTerm (pos w) r ≤ℤ x) (sym e)
         (pos-mono
         (quotient-least (natAbs r * natAbs r) (4 * w) q (four-times (pos-lt h))
-        (pos-le (subst₂ (λ (x z : ℤ). x ≤ℤ (pos 4 *ℤ pos w *ℤ z)) (squared-natAbs r) e k))))
+        (pos-le (subst₂ (λ (x z : ℤ). x ≤ℤ (pos 4 *ℤ pos w *ℤ z)) (natAbs-sq r) e k))))
 square-least (negsuc w) r t h k = absurd (h .lt)
 
 -- ---- when the square counts

@@ -54,5 +54,6 @@ far-reached = record {
 pub four-least : FourLeast
 four-least a b bound =
     let f = far-reached in
-    let h : pos (b * 12) ≤ℤ pos (a * 3 * 1) = subst (λ (x : ℤ). (pos b *ℤ x) ≤ℤ (pos a *ℤ pos 3 *ℤ (pos 1 *ℤ pos 1))) (f .reached) (bound farJob farTable (pos 12) (pos 3) (f .accepted) (pos 1) (wordAt farOther) (f .as-good)) in
-    omega (arith, pos-le h)
+    let h = bound farJob farTable (pos 12) (pos 3) (f .accepted) (pos 1) (wordAt farOther) (f .as-good) in
+    let k : pos (b * 12) ≤ℤ pos (a * 3 * 1) = subst (λ (x : ℤ). (pos b *ℤ x) ≤ℤ (pos a *ℤ pos 3 *ℤ (pos 1 *ℤ pos 1))) (f .reached) h in
+    omega (arith, pos-le k)

@@ -12,7 +12,7 @@ use borrow.Author.Tests.{ltb-true, ltb-false, leb-true, le-ltb, le-leb, lt-leb}
 use mir.Syntax.{w64}
 use mir.Val.{SFits, ofZ}
 use Rattle.whole.proofs.Order.{≤ℤ-trans}
-use Rattle.whole.proofs.Magnitude.{bound-+, bound--, bound-*, natAbs-le-of}
+use Rattle.whole.proofs.Magnitude.{bound-+, bound--, bound-*, natAbs-le-of, natAbs-sq}
 use Rattle.whole.proofs.Fits.{small-fits, gives}
 use Rattle.certificate.specs.Terms.{boxTerm, squareTerm, smaller, squareCounts, cellTerm}
 use Rattle.numbers.specs.Choice.{if_then_else_}
@@ -110,10 +110,6 @@ module _ {r lo hi v : ℤ} (h : Boxed r lo hi v) where
 
 -- ---- the square term
 
-square-natAbs : (r : ℤ) → r *ℤ r ≡ pos (natAbs r * natAbs r)
-square-natAbs (pos n) = refl
-square-natAbs (negsuc n) = refl
-
 minus-one : (m : ℕ) → 1 ≤ m → pos m -ℤ pos 1 ≡ pos (m - 1)
 minus-one m h = rw (le-ltb m 1 h)
 
@@ -132,7 +128,7 @@ module _ {w r : ℤ} (h : Squares w r) where
   squared-small = N.mul-le-mul (h .r-small) (h .r-small)
 
   pub times-is : read r *ℤ read r ≡ pos (natAbs r * natAbs r)
-  times-is = ap (λ (x : ℤ). x *ℤ x) (gives refl (small-fits r (h .r-small) (lit< tt))) ∙ square-natAbs r
+  times-is = ap (λ (x : ℤ). x *ℤ x) (gives refl (small-fits r (h .r-small) (lit< tt))) ∙ natAbs-sq r
 
   pub times-fits : SFits w64 (pos (natAbs r * natAbs r))
   times-fits = small-fits (pos (natAbs r * natAbs r)) squared-small (lit< tt)

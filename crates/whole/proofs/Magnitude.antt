@@ -1,14 +1,15 @@
 -- Magnitudes: how large |z| can be (`natAbs z`), by the magnitudes of the parts of z. `bound-* a b h k : natAbs (a *ℤ b) ≤ 10 * 20` where
 -- `h : natAbs a ≤ 10` and `k : natAbs b ≤ 20`.
-use mathlib.Core.Path.{_≡_, refl, subst}
+use mathlib.Core.Path.{_≡_, refl, sym, ap, subst, subst₂}
 use mathlib.Core.Bool.{Bool, true, false, cond}
-use Prim.Native.Nat.{ℕ, zero, suc, _+_, _-_, _*_, _≤_, _<_, suc-le-suc}
+use Prim.Native.Nat.{ℕ, zero, suc, _+_, _-_, _*_, _≤_, _<_, suc-le-suc, zero-le}
 use native.Mathlib.Nat as N
 use native.Mathlib.Omega.{arith}
+use borrow.Author.Tests.{ltb-true, ltb-false}
 use lib.IntN.{ℤ, pos, negsuc, negℤ, natAbs, subℕ, _+ℤ_, _-ℤ_, _*ℤ_, negℤ-negℤ}
 use lib.Signed.{_≤ℤ_, leZ-yes, ≤ℤ-refl}
 use lib.Dec.{T, ltb, leb→le, ltb→lt}
-use Rattle.whole.proofs.Order.{pos-le, negℤ-mono}
+use Rattle.whole.proofs.Order.{nat-of, pos-mono, pos-le, negℤ-mono}
 
 -- the magnitude of a sum, a negation, a difference, a product
 natAbs-sub : (a b : ℕ) → natAbs (subℕ a b) ≤ a + b
@@ -64,3 +65,23 @@ le-natAbs (negsuc n) = leZ-yes tt
 pub neg-natAbs-le : (z : ℤ) → negℤ (pos (natAbs z)) ≤ℤ z
 neg-natAbs-le z = subst (λ (x : ℤ). negℤ (pos (natAbs z)) ≤ℤ x) (negℤ-negℤ z)
     (negℤ-mono (subst (λ (x : ℕ). negℤ z ≤ℤ pos x) (natAbs-neg z) (le-natAbs (negℤ z))))
+
+-- a square is that of the magnitude, and the smaller of two squares is that of the smaller
+pub natAbs-sq : (z : ℤ) → z *ℤ z ≡ pos (natAbs z * natAbs z)
+natAbs-sq (pos n) = refl
+natAbs-sq (negsuc n) = refl
+
+root : (a b : ℕ) → a * a ≤ b * b → a ≤ b
+root a b h = go (ltb b a) refl
+  where
+    go : (t : Bool) → ltb b a ≡ t → a ≤ b
+    go true e =
+        let l : b < a = ltb-true b a e in
+        absurd (N.not-le-of-lt (N.lt-of-le-of-lt (N.mul-le-mul-right b (N.le-of-lt l)) (N.mul-lt-mul-of-pos-left l (N.lt-of-le-of-lt zero-le l))) h)
+    go false e = ltb-false b a e
+
+pub abs-by-square : (e m : ℤ) → pos 0 ≤ℤ m → (e *ℤ e) ≤ℤ (m *ℤ m) → pos (natAbs e) ≤ℤ m
+abs-by-square e m p h =
+    let n = nat-of m p in
+    subst (λ (x : ℤ). pos (natAbs e) ≤ℤ x) (sym (n .1))
+    (pos-mono (root (natAbs e) (n .0) (pos-le (subst₂ (λ (x z : ℤ). x ≤ℤ z) (natAbs-sq e) (ap (λ (x : ℤ). x *ℤ x) (n .1)) h))))

@@ -9,8 +9,8 @@ use native.Mathlib.Omega.{arith}
 use lib.IntN.{ℤ, pos, _+ℤ_, +ℤ-comm, +ℤ-assoc, +ℤ-idl, +ℤ-idr}
 use lib.Signed.{_≤ℤ_}
 use Rattle.whole.specs.Sum.{sum}
-use Rattle.whole.proofs.Order.{≤ℤ-by}
-use Rattle.whole.proofs.Sums.{sum-ext, sum-vanish, sum-nonneg}
+use Rattle.whole.proofs.Order.{≤ℤ-trans, ≤ℤ-by}
+use Rattle.whole.proofs.Sums.{sum-suc, sum-ext, sum-vanish, sum-nonneg}
 
 -- one term only
 pub sum-one : (n k : ℕ) {f : ℕ → ℤ} → k < n → ((i : ℕ) → i < n → i ≢ k → f i ≡ pos 0) → sum n f ≡ f k
@@ -82,3 +82,8 @@ sum-longer m n {f} h k =
 
     inside : (i : ℕ) → i < n - m → m + i < n
     inside i l = omega arith
+
+-- no term is above a sum of which none is negative
+pub term-in-sum : (n : ℕ) {f : ℕ → ℤ} → ((i : ℕ) → i < n → pos 0 ≤ℤ f i) → (i : ℕ) → i < n → f i ≤ℤ sum n f
+term-in-sum n {f} h i k =
+    ≤ℤ-trans (≤ℤ-by (sum i f) (sum-nonneg i (λ m l. h m (N.lt-trans l k))) (sum-suc i f ∙ +ℤ-comm (sum i f) (f i))) (sum-longer (suc i) n k h)

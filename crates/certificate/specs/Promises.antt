@@ -55,7 +55,7 @@ NoneFar =
     (P : Problem) (v y t : ℕ → ℤ) → Certified P v y t → Meets P (pos 1) v → (d : ℤ) (X : ℕ → ℤ) → pos 1 ≤ℤ d → Meets P d X
     → scaledLoss P d X ≤ℤ (d *ℤ d *ℤ loss P v) → farness P (offBy d X v) ≤ℤ (pos 4 *ℤ gap P v y t *ℤ (d *ℤ d))
 
--- Where all that it is off by comes to `most` at most, no rate is off by more than reaches.
+-- Where the farness is at most `most`, no rate is off by more than an r that reaches.
 abbrev pub NoRateFar : Type 0
 NoRateFar =
     (P : Problem) (v y : ℕ → ℤ) → NotNegative P y → (most d : ℤ) (X : ℕ → ℤ) → pos 1 ≤ℤ d → Meets P d X

@@ -1,6 +1,6 @@
 -- A fetched table is accepted for the job presented: every table of a list came from a keep that was sent and accepted, and the check of its proposal
 -- against that job is what the fetch went by.
-use Prim.Native.Nat.{ℕ}
+use Prim.Native.Nat.{ℕ, _<_}
 use mathlib.Core.Path.{_≡_, refl, sym, ap, _∙_, subst}
 use mathlib.Core.Logic.{inl, inr}
 use mathlib.Core.Bool.{Bool, true, false, cond}
@@ -8,7 +8,7 @@ use mathlib.Core.List.{List, [], _∷_}
 use native.Mathlib.Omega.{arith}
 use borrow.Author.Tests.{eqb-true}
 use lib.Dec.{eqb}
-use lib.IntN.{pos}
+use lib.IntN.{ℤ, pos}
 use lib.ListN.{length, getD}
 use Rattle.packs.specs.declared.Outcome.{Outcome}
 use Rattle.packs.specs.declared.Outcome.the-variants.{Done, Refused as Refuses}
@@ -27,13 +27,13 @@ use Rattle.counts.specs.Counts.{countIn, testRow, onRow, rowIn}
 use Rattle.shelf.specs.Calls.{Own, Call, keep, fetch, forget, own, clear, said}
 use Rattle.shelf.proofs.Picked.{and-left, and-right}
 use Rattle.checked.proofs.Sound.{accepted-read, values-count, multipliers-count}
-use Rattle.claims.specs.Read.{jobIn, Reads}
+use Rattle.claims.specs.Read.{jobIn, valuesIn, Reads}
 use Rattle.claims.specs.Lists.{Table, tableFrom, tableFor, isOf, fetched, kept, removed, Lists, onList, keptLists, listsAfter, Kept, emptied, keptAfter}
 use Rattle.claims.specs.LastKept.{ClearedWith, shelfAfter, allAfter, held}
 use Rattle.claims.specs.Fetched.{Sent, IsAccepted}
 use Rattle.claims.proofs.Accepted.{no-other-refusal}
 use Rattle.claims.proofs.Best.{best}
-use Rattle.claims.proofs.Far.{accepted-close}
+use Rattle.claims.proofs.Far.{accepted-close, close-same}
 use Rattle.claims.proofs.Told.{handed-told}
 use Rattle.claims.proofs.Tables.{All, all-kept, all-removed}
 use Rattle.claims.proofs.AsChecked.{value-kept, same-proposal, fetched-checked, counts-refused}
@@ -133,6 +133,12 @@ module _ (calls : List Call) (job : List ℕ) (room : ℕ) (reads : Reads (readJ
   by-verdict : (v : Verdict) → checkOf job proposal ≡ v → handed room vs v .answer .number ≡ 0 → IsAccepted calls job (handed room vs v)
   by-verdict v q m =
       let h = handed-told job proposal vs room v q m in
+      let r = handed room vs v in
+      let F : ℤ = pos (r .answer .loss) in
+      let G : ℤ = pos (r .answer .gap) in
+      let same : (i : ℕ) → i < jobIn job .cells → pos (getD (r .values) i 0) ≡ valuesIn job proposal i = λ i k.
+      ap (λ (xs : List ℕ). pos (getD xs i 0)) (h .given) ∙ value-kept old proposal yes i (omega arith)
+      ∙ sym (ap (λ (x : Ran). wordAt (x .words) i) (same-proposal old proposal yes job reads ec el)) in
       record {
         kept-under = old;
         proposal = proposal;
@@ -141,11 +147,9 @@ module _ (calls : List Call) (job : List ℕ) (room : ℕ) (reads : Reads (readJ
         its-number = en;
         accepted = h .accepted;
         count = ap length (h .given) ∙ values-count old proposal (accepted-read old proposal yes) ∙ sym ec;
-        values = λ i k.
-            ap (λ (xs : List ℕ). pos (getD xs i 0)) (h .given) ∙ value-kept old proposal yes i (omega arith)
-            ∙ sym (ap (λ (r : Ran). wordAt (r .words) i) (same-proposal old proposal yes job reads ec el));
-        best = best job proposal _ _ (h .accepted);
-        close = accepted-close job proposal _ _ (h .accepted);
+        values = same;
+        best = best job proposal F G (h .accepted);
+        close = close-same (jobIn job) (valuesIn job proposal) (λ i. pos (getD (r .values) i 0)) same F G (accepted-close job proposal F G (h .accepted));
       }
 
 behind : (calls : List Call) (job : List ℕ) (room : ℕ) → Reads (readJob job .outcome) → (t : Table) → Came calls (jobIn job .society) t → t .job ≡ jobIn job .number

@@ -20,8 +20,8 @@ pub record AsGood (j : Job) (F d : ℤ) (X : ℕ → ℤ) : Type 0 where
   pub meets : Meets j d X
   pub no-worse : scaledLossOf j d X ≤ℤ (d *ℤ d *ℤ F)
 
--- X / d "differs from ours by little": together its differences come to at most `most`, which is most·d² for X and d·v; and no rate of it is off by more
--- than r, for every whole number r with w·r² at least `most`, where the cell's weight w is positive, or for which its box leaves no more room.
+-- X / d "differs from ours by little": its differences "come to at most" `most`, which is most·d² for X and d·v; and each rate is off by r at most, for every
+-- whole number r with w·r² at least `most` where the cell's weight w is positive, and for every r that is not less than what either end of its box leaves.
 pub record Close (j : Job) (v : ℕ → ℤ) (most d : ℤ) (X : ℕ → ℤ) : Type 0 where
   pub together : farnessOf j (offBy d X v) ≤ℤ (most *ℤ (d *ℤ d))
   pub each : (i : ℕ) → i < j .cells → (r : ℕ) → Reaches (j .weight i) (j .floor i) (j .ceiling i) (v i) most r → pos (natAbs (offBy d X v i)) ≤ℤ (d *ℤ pos r)

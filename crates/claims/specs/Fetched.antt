@@ -32,4 +32,4 @@ pub record IsAccepted (calls : List Call) (job : List ℕ) (r : Reply) : Type 0 
   pub count : length (r .values) ≡ jobIn job .cells
   pub values : (i : ℕ) → i < jobIn job .cells → pos (getD (r .values) i 0) ≡ valuesIn job proposal i
   pub best : NoneBelow (jobIn job) (pos (r .answer .loss)) (pos (r .answer .gap))
-  pub close : NoneFar (jobIn job) (valuesIn job proposal) (pos (r .answer .loss)) (pos (r .answer .gap))
+  pub close : NoneFar (jobIn job) (λ i. pos (getD (r .values) i 0)) (pos (r .answer .loss)) (pos (r .answer .gap))

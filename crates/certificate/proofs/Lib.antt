@@ -6,4 +6,6 @@ pub mod Terms
 pub mod Differences
 pub mod Families
 pub mod Far
+pub mod Turned
+pub mod Grids
 pub mod Worked

@@ -1,9 +1,9 @@
 -- Differences: one row of coefficients moved along the cells, with any row, order and stride. Document 01's differences of order 2 of 9 cells are
 -- `record { row = ..; order = 2; stride = 1; count = 7; start = λ f. f }` with the row 1 -2 1; those down the columns of a grid have its columns
 -- as their stride.
-use Prim.Native.Nat.{ℕ, suc, _+_, _-_, _*_, _<_}
+use Prim.Native.Nat.{ℕ, suc, _+_, _-_, _*_, _%_, _<_}
 use mathlib.Core.Path.{_≡_}
-use mathlib.Core.Bool.{cond}
+use mathlib.Core.Bool.{Bool, cond}
 use lib.Dec.{leb, ltb}
 use lib.IntN.{ℤ, pos, _*ℤ_}
 use Rattle.whole.specs.Sum.{sum, only, coefficientOf}
@@ -39,6 +39,10 @@ formAt row order stride start x = sum (suc order) (λ m. row m *ℤ x (start + m
 -- what the difference f comes to at a table x
 abbrev pub difference : Family → (x : ℕ → ℤ) → (f : ℕ) → ℤ
 difference F x f = formAt (F .row) (F .order) (F .stride) (F .start f) x
+
+-- in a grid of `width` columns: whether what starts at a cell ends in the same row
+abbrev pub inRow : (width order stride start : ℕ) → Bool
+inRow width order stride start = ltb (start % width + order * stride) width
 
 -- the coefficient of the cell i in the difference f
 abbrev pub coefficient : Family → (f i : ℕ) → ℤ

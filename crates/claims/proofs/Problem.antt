@@ -1,6 +1,6 @@
 -- A job as a problem of `certificate`: its forms are the job's differences, down and across, its rows of link coefficients the links' terms. Loss, residual and gap of
 -- the job are those of the problem, because a difference is the form of its coefficients and a link's sum the row of its terms.
-use Prim.Native.Nat.{ℕ, _+_, _-_, _*_, _%_, _<_}
+use Prim.Native.Nat.{ℕ, _+_, _-_, _<_}
 use mathlib.Core.Path.{_≡_, refl, sym, ap, ap₂, subst, _∙_}
 use mathlib.Core.Bool.{Bool, true, false}
 use native.Mathlib.Omega.{arith}
@@ -15,27 +15,24 @@ use Rattle.whole.proofs.Rows.{row-value}
 use Rattle.certificate.specs.Problem.{Problem, squared, rough, loss, scaledLoss, link, residual, gap}
 use Rattle.certificate.specs.Problem as P
 use Rattle.certificate.specs.Terms.{cellTerm, terms, NotNegative}
-use Rattle.certificate.specs.Differences.{Inside, difference, coefficient, returned}
+use Rattle.certificate.specs.Differences.{Inside, inRow, difference, coefficient, returned}
 use Rattle.certificate.specs.Far.{farness}
 use Rattle.certificate.proofs.Differences.{difference-is-form, smooth-loss}
 use Rattle.certificate.proofs.Families.{either, sum-forms}
 use Rattle.numbers.specs.Choice.{if_then_else_}
-use Rattle.jobs.specs.Job.{Job}
+use Rattle.jobs.specs.Job.{Job, linkCoefficient}
 use Rattle.jobs.specs.Allowed.{Allowed}
 use Rattle.jobs.proofs.Places.{upto-nonneg}
 use Rattle.tally.specs.Supplied.{limit}
 use Rattle.measure.specs.Loss.{familyOf, familyAcross, acrossAt, fitOf, roughOf, lossOf}
-use Rattle.measure.specs.Gap.{linkSum, linkCoefficient, smoothPart, residualOf, gapOf}
+use Rattle.measure.specs.Gap.{linkSum, smoothPart, residualOf, gapOf}
 use Rattle.claims.specs.Meets.{Meets, scaledLossOf}
 use Rattle.claims.specs.Far.{farnessOf}
 
 -- Document 01's constant for a difference down; for one across the second constant, and 0 where the difference would run over its row's end. So both families
 -- start at every cell, and the laws of consecutive starts serve both.
-abbrev inOneRow : Job → ℕ → Bool
-inOneRow j f = ltb (f % j .columns + j .across * 1) (j .columns)
-
 abbrev acrossConstant : Job → ℕ → ℤ
-acrossConstant j f = if inOneRow j f then j .second else pos 0
+acrossConstant j f = if inRow (j .columns) (j .across) 1 f then j .second else pos 0
 
 abbrev pub problemOf : Job → Problem
 problemOf j = record {
@@ -78,7 +75,7 @@ module _ (j : Job) where
       (smooth-loss (familyOf j) (j .cells) inside (λ f. j .constant) v
       ∙ sum-*l (familyOf j .count) (j .constant) (λ f. squared (difference (familyOf j) v f)))
       (smooth-loss (familyAcross j) (j .cells) inside-across (acrossConstant j) v
-      ∙ sum-ext (familyAcross j .count) (λ f. masked-square (j .second) (difference (familyAcross j) v f) (inOneRow j f))
+      ∙ sum-ext (familyAcross j .count) (λ f. masked-square (j .second) (difference (familyAcross j) v f) (inRow (j .columns) (j .across) 1 f))
       ∙ sum-*l (familyAcross j .count) (j .second) (λ f. squared (acrossAt j v f)))
 
   pub loss-same : (v : ℕ → ℤ) → loss (problemOf j) v ≡ lossOf j v
@@ -110,7 +107,7 @@ module _ (j : Job) where
       (sum-cong (familyAcross j .count)
       (λ f l.
       ap (λ (x : ℤ). pos 2 *ℤ acrossConstant j f *ℤ x *ℤ coefficient (familyAcross j) f i) (difference-is-form (familyAcross j) (j .cells) f v (inside-across f l))
-      ∙ masked-slope (j .second) (difference (familyAcross j) v f) (coefficient (familyAcross j) f i) (inOneRow j f))
+      ∙ masked-slope (j .second) (difference (familyAcross j) v f) (coefficient (familyAcross j) f i) (inRow (j .columns) (j .across) 1 f))
       ∙ sum-*l (familyAcross j .count) (pos 2 *ℤ j .second) (λ f. acrossAt j v f *ℤ coefficient (familyAcross j) f i))
       ∙ doubled (j .constant) (j .second) (returned (familyOf j) (difference (familyOf j) v) i) (returned (familyAcross j) (acrossAt j v) i)
 
@@ -142,7 +139,7 @@ module _ (j : Job) (A : Allowed j) where
   pub not-negative : (y : ℕ → ℤ) → ((l : ℕ) → l < j .links → pos 0 ≤ℤ y l) → NotNegative (problemOf j) y
   not-negative y h = record {
     weights = λ i k. upto-nonneg (A .cell i k .weight);
-    constants = λ f k. go (ltb f (familyOf j .count)) (inOneRow j (f - familyOf j .count));
+    constants = λ f k. go (ltb f (familyOf j .count)) (inRow (j .columns) (j .across) 1 (f - familyOf j .count));
     multipliers = h;
   }
     where

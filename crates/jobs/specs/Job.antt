@@ -2,6 +2,7 @@
 use Prim.Native.Nat.{ℕ}
 use mathlib.Core.Bool.{Bool}
 use lib.IntN.{ℤ}
+use Rattle.whole.specs.Sum.{coefficientOf}
 
 -- "A job has n cells numbered from 0, order z, constant k, tolerance T. Cell i has crude rate u, weight w, floor lo, ceiling hi. A link j says: the
 -- sum of coefficient times rate over its terms is at most b." The order is the order used.
@@ -28,3 +29,7 @@ pub record Job : Type 0 where
   pub cell : (link term : ℕ) → ℕ
   pub coefficient : (link term : ℕ) → ℤ
   pub bound : ℕ → ℤ
+
+-- The coefficient of the cell i in the link l, 0 where the link does not name the cell.
+abbrev pub linkCoefficient : Job → (l i : ℕ) → ℤ
+linkCoefficient j l i = coefficientOf (j .terms l) (j .cell l) (j .coefficient l) i

@@ -17,6 +17,7 @@ use Rattle.whole.proofs.Sums.{sum-zero}
 use Rattle.whole.proofs.Fits.{small-fits, gives}
 use Rattle.numbers.specs.Choice.{if_then_else_}
 use Rattle.numbers.proofs.Clash.{clash}
+use Rattle.jobs.specs.Job.{linkCoefficient}
 use Rattle.jobs.specs.Words.{wordAt, cellsOf, linksOf, jobOf}
 use Rattle.jobs.proofs.Places.{zeros-at}
 use Rattle.tally.specs.declared.Tally.{Tally}
@@ -31,7 +32,7 @@ use Rattle.measure.specs.declared.check.Verdict.{Verdict}
 use Rattle.measure.specs.declared.check.Verdict.the-variants.{Accepted, Refused}
 use Rattle.measure.specs.declared.links.Walked.{Walked}
 use Rattle.measure.specs.declared.links.Walked.the-variants.{Unmet, Held}
-use Rattle.measure.specs.Gap.{linkCoefficient, gapOf}
+use Rattle.measure.specs.Gap.{gapOf}
 use Rattle.measure.specs.Largest.{largestPlace}
 use Rattle.measure.specs.Check.{lowestFailing, verdictOf, verdictFor}
 use Rattle.measure.specs.Given.{Given, Smoothing, Losing, Walking, Totalling, Parted, Judging}

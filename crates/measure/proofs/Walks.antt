@@ -17,6 +17,7 @@ use Rattle.whole.proofs.Order.{≤ℤ-sub, *ℤ-nonneg}
 use Rattle.whole.proofs.Sums.{sum-zero, sum-step, sum-bound}
 use Rattle.whole.proofs.Magnitude.{bound-+, bound-*}
 use Rattle.whole.proofs.Fits.{Holds, Adds, partial-small, small-fits, gives}
+use Rattle.jobs.specs.Job.{linkCoefficient}
 use Rattle.jobs.specs.Words.{wordAt, countAt, cellsOf, linksOf, startOf, jobOf}
 use Rattle.jobs.specs.Allowed.{Upto}
 use Rattle.jobs.proofs.Places.{upto-nonneg, start-suc}
@@ -28,7 +29,7 @@ use Rattle.tally.proofs.Terms.{link-small, true-T}
 use Rattle.tally.proofs.Totals.{Runs, not-lt-le, lt-not-le}
 use Rattle.tally.proofs.Tallies.{tally-starts, tallies-call, tallies-next}
 use Rattle.measure.specs.declared.links.Walked.the-variants.{Unmet, Held}
-use Rattle.measure.specs.Gap.{linkSum, linkCoefficient}
+use Rattle.measure.specs.Gap.{linkSum}
 use Rattle.measure.specs.Given.{Given, LinkAt, Linked, Scattering, Walking}
 use Rattle.measure.specs.Running.{sumAt, boundAt, partAt, Added, walkOf}
 use Rattle.measure.specs.OnWords.{multiplierOn, holdsOn, linkTermOn, heldOn, partsOn, walkOn}

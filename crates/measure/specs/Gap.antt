@@ -1,20 +1,17 @@
 -- Document 01, "Loss and gap": residuals, terms and the gap of a table v with multipliers y.
 use Prim.Native.Nat.{ℕ}
 use lib.IntN.{ℤ, pos, _+ℤ_, _-ℤ_, _*ℤ_}
-use Rattle.whole.specs.Sum.{sum, coefficientOf}
+use Rattle.whole.specs.Sum.{sum}
 use Rattle.certificate.specs.Terms.{cellTerm}
 use Rattle.certificate.specs.Differences.{difference, returned}
-use Rattle.jobs.specs.Job.{Job}
+use Rattle.jobs.specs.Job.{Job, linkCoefficient}
 use Rattle.tally.specs.declared.term.Supplied.{Supplied}
 use Rattle.tally.specs.Supplied.{limit, supplied}
 use Rattle.measure.specs.Loss.{familyOf, familyAcross, acrossAt}
 
--- The sum of the link l over a table, and the coefficient of the cell i in it, 0 where the link does not name the cell.
+-- The sum of the link l over a table.
 unfoldable pub linkSum : Job → (l : ℕ) → (v : ℕ → ℤ) → ℤ
 linkSum j l v = sum (j .terms l) (λ m. j .coefficient l m *ℤ v (j .cell l m))
-
-abbrev pub linkCoefficient : Job → (l i : ℕ) → ℤ
-linkCoefficient j l i = coefficientOf (j .terms l) (j .cell l) (j .coefficient l) i
 
 -- "2k times the sum, over every D that uses cell i, of D times that cell's s"; for a grid of both directions, each with its constant.
 abbrev pub slopeOf : Job → (v : ℕ → ℤ) → (i : ℕ) → ℤ

@@ -1,11 +1,10 @@
 -- Document 01, "Loss and gap": the differences of a table v, and its loss; W-205: a grid's differences in both directions.
-use Prim.Native.Nat.{ℕ, _+_, _-_, _*_, _%_}
-use lib.Dec.{ltb}
+use Prim.Native.Nat.{ℕ, _-_, _*_}
 use lib.IntN.{ℤ, pos, _+ℤ_, _-ℤ_, _*ℤ_}
 use Rattle.numbers.specs.Choice.{if_then_else_}
 use Rattle.whole.specs.Sum.{sum}
 use Rattle.certificate.specs.Problem.{squared}
-use Rattle.certificate.specs.Differences.{Family, along, formAt, difference}
+use Rattle.certificate.specs.Differences.{Family, along, formAt, difference, inRow}
 use Rattle.jobs.specs.Job.{Job}
 use Rattle.rows.specs.Rows.{rowOf}
 
@@ -21,7 +20,7 @@ familyOf j = familyWith (j .order) (j .columns) (j .cells)
 -- "those along the rows": the difference that starts at a cell, if it ends in the same row of a grid of `width` columns; 0 where it would run over that
 -- row's end.
 abbrev pub formWithin : (width : ℕ) (row : ℕ → ℤ) (order stride start : ℕ) → (v : ℕ → ℤ) → ℤ
-formWithin width row order stride start v = if ltb (start % width + order * stride) width then formAt row order stride start v else pos 0
+formWithin width row order stride start v = if inRow width order stride start then formAt row order stride start v else pos 0
 
 abbrev pub differenceWithin : (width : ℕ) → Family → (v : ℕ → ℤ) → (f : ℕ) → ℤ
 differenceWithin width F v f = formWithin width (F .row) (F .order) (F .stride) (F .start f) v

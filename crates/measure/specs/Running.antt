@@ -8,12 +8,12 @@ use lib.IntN.{ℤ, pos, _+ℤ_, _*ℤ_}
 use lib.ListN.{length}
 use Rattle.whole.specs.Sum.{sum, coefficientOf}
 use Rattle.numbers.specs.Choice.{if_then_else_}
-use Rattle.jobs.specs.Job.{Job}
+use Rattle.jobs.specs.Job.{Job, linkCoefficient}
 use Rattle.jobs.specs.Words.{wordAt, countAt}
 use Rattle.tally.specs.Tally.{talliedOf}
 use Rattle.measure.specs.declared.links.Walked.{Walked}
 use Rattle.measure.specs.declared.links.Walked.the-variants.{Unmet, Held}
-use Rattle.measure.specs.Gap.{linkCoefficient, linkTermOf}
+use Rattle.measure.specs.Gap.{linkTermOf}
 use Rattle.measure.specs.Check.{lowestFailing, inBox, holds}
 
 -- A number is added to each word of a list.

@@ -1,12 +1,14 @@
--- The rule of the difference rows, by one computed test of the whole table each: coefficients of 6 at most, rows that come to 0, and magnitudes that
--- come to 16 at most.
+-- The rule of the difference rows, by one computed test of the whole table each: coefficients of 6 at most, rows that come to 0, magnitudes that come to 16
+-- at most, and rows that are themselves up to sign when they are read backwards.
 use Prim.Native.Nat.{ℕ, zero, suc, _≤_}
 use mathlib.Core.Path.{_≡_, ap}
 use mathlib.Core.Bool.{Bool, false}
 use native.Mathlib.Omega.{arith}
 use lib.Dec.{T, leb, leb→le, eqb, eqb→eq}
-use lib.IntN.{ℤ, pos, negsuc, natAbs}
+use lib.IntN.{ℤ, pos, negsuc, negℤ, natAbs, _-ℤ_, _*ℤ_}
 use Rattle.whole.specs.Sum.{sum, sumℕ}
+use Rattle.whole.specs.Turned.{fromLast}
+use Rattle.whole.proofs.Ring.{eq-of-sub}
 use Rattle.whole.proofs.Tested.{below, below-at}
 use Rattle.rows.specs.Rows.{rowOf}
 
@@ -43,3 +45,25 @@ pub less-size : (z : ℕ) → z ≤ 3 → sumℕ (suc z) (λ m. natAbs (rowOf z 
 unfolding rowOf sumℕ
 less-size z h =
     leb→le (sumℕ (suc z) (λ m. natAbs (rowOf z m))) 8 (below-at 4 (λ z. leb (sumℕ (suc z) (λ m. natAbs (rowOf z m))) 8) tt z (omega arith))
+
+-- ---- read backwards
+
+-- 1 for an even order, -1 for an odd one
+abbrev pub signOf : (z : ℕ) → ℤ
+signOf zero = pos 1
+signOf (suc z) = negℤ (signOf z)
+
+pub sign-squared : (z : ℕ) → z ≤ 4 → signOf z *ℤ signOf z ≡ pos 1
+sign-squared z h =
+    eq-of-sub (signOf z *ℤ signOf z) (pos 1)
+    (zero-is (signOf z *ℤ signOf z -ℤ pos 1) (below-at 5 (λ z. isZero (signOf z *ℤ signOf z -ℤ pos 1)) tt z (omega arith)))
+
+backwards-row : ℕ → Bool
+backwards-row z = below (suc z) (λ m. isZero (rowOf z (fromLast (suc z) m) -ℤ signOf z *ℤ rowOf z m))
+
+pub row-backwards : (z m : ℕ) → z ≤ 4 → m ≤ z → rowOf z (fromLast (suc z) m) ≡ signOf z *ℤ rowOf z m
+unfolding backwards-row rowOf
+row-backwards z m h k =
+    eq-of-sub (rowOf z (fromLast (suc z) m)) (signOf z *ℤ rowOf z m)
+    (zero-is (rowOf z (fromLast (suc z) m) -ℤ signOf z *ℤ rowOf z m)
+    (below-at (suc z) (λ m. isZero (rowOf z (fromLast (suc z) m) -ℤ signOf z *ℤ rowOf z m)) (below-at 5 backwards-row tt z (omega arith)) m (omega arith)))

@@ -7,6 +7,8 @@ pub mod Magnitude
 pub mod Sums
 pub mod Parts
 pub mod Rows
+pub mod Turned
+pub mod Grids
 pub mod Fits
 pub mod Tested
 pub mod Examples

@@ -130,13 +130,13 @@ module _ (ws : List ℤ) (L : Laid ws) (τ : ℕ → ℕ) where
   abbrev pub coefficients : (l : ℕ) → ℕ → ℤ
   coefficients l i = linkCoefficient (jobOf ws) l (τ i)
 
-  abbrev links-list : List ℤ
+  abbrev pub links-list : List ℤ
   links-list = pos (linksOf ws) ∷ inTurn (turnedLink τ ws) 0 (linksOf ws)
 
-  abbrev body : List ℤ
+  abbrev pub body : List ℤ
   body = inTurn (turnedCell τ ws) 0 (cellsOf ws) ++ links-list
 
-  head-long : length (take (headWords ws) ws) ≡ headWords ws
+  pub head-long : length (take (headWords ws) ws) ≡ headWords ws
   head-long = length-take-le (headWords ws) ws (omega (arith, cells-inside L))
 
   -- ---- the head
@@ -161,7 +161,7 @@ module _ (ws : List ℤ) (L : Laid ws) (τ : ℕ → ℕ) where
 
   -- ---- the cells
 
-  body-there : drop (headWords ws) ws′ ≡ body
+  pub body-there : drop (headWords ws) ws′ ≡ body
   unfolding turnedWords
   body-there = ap (λ (k : ℕ). drop k ws′) (sym head-long) ∙ drop-append-seam (take (headWords ws) ws) body
 

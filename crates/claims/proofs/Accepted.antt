@@ -43,14 +43,14 @@ module _ (job proposal : List ℕ) where
   on-job : Reads (readJob job .outcome) → checkOf job proposal ≡ proposalVerdict (jobIn job) proposal
   on-job r = ap (λ (o : Outcome). onRead o (proposalVerdict (jobIn job) proposal)) (r .1)
 
-  abbrev tabled : Verdict
+  abbrev pub tabled : Verdict
   tabled = verdictOf (jobIn job) (valuesIn job proposal) (multipliersIn job proposal)
 
   proposal-refused : {number place : ℕ} → Reads (readJob job .outcome) → proposalIn job proposal .outcome ≡ Refuses number place
       → checkOf job proposal ≡ Refused number place
   proposal-refused r e = on-job r ∙ ap (λ (o : Outcome). onRead o tabled) e
 
-  on-both : BothRead job proposal → checkOf job proposal ≡ tabled
+  pub on-both : BothRead job proposal → checkOf job proposal ≡ tabled
   on-both B = on-job (B .job-reads) ∙ ap (λ (o : Outcome). onRead o tabled) (B .proposal-reads .1)
 
   is-outside : {place : ℕ} → Outside job proposal place → checkOf job proposal ≡ Refused 7 place

@@ -5,23 +5,21 @@ use mathlib.Core.Path.{_≡_, refl, sym, ap, ap₂, _∙_, subst}
 use mathlib.Core.Bool.{Bool, true, false, cond}
 use mathlib.Core.List.{List, [], _∷_, _++_}
 use native.Mathlib.Omega.{arith}
-use borrow.Author.Tests.{eqb-true, ltb-true, ltb-false}
-use lib.Dec.{eqb, ltb, lit<}
-use lib.IntN.{ℤ, pos, natAbs}
-use lib.ListN.{length, drop, getD, length-drop, length-append, List·getD-append, List·getD-eq-default}
+use borrow.Author.Tests.{eqb-true, ltb-false}
+use lib.Dec.{eqb, ltb}
+use lib.IntN.{ℤ, pos}
+use lib.ListN.{length, drop, getD, length-drop, length-append, List·getD-append}
 use lib.Seq.{length-take-le}
-use Rattle.whole.proofs.Fits.{small-fits}
 use Rattle.numbers.specs.Choice.{if_then_else_}
 use Rattle.packs.specs.declared.Outcome.{Outcome}
 use Rattle.packs.specs.declared.Outcome.the-variants.{Done, Refused as Refuses}
 use Rattle.packs.specs.Reading.{Ran}
-use Rattle.packs.specs.Promises.{AllWords}
 use Rattle.jobs.specs.Job.{Job}
 use Rattle.jobs.specs.Words.{wordAt}
 use Rattle.jobs.specs.Allowed.{Allowed, Proposed}
 use Rattle.jobs.specs.Packs.{readJob, writeProposal}
 use Rattle.jobs.proofs.Readings.{read-jobs-allowed, read-jobs-laid}
-use Rattle.jobs.proofs.Trips.{allowed-proposals-written, proposals-read-back}
+use Rattle.jobs.proofs.Trips.{proposed-read-back}
 use Rattle.measure.specs.declared.check.Verdict.{Verdict}
 use Rattle.measure.specs.declared.check.Verdict.the-variants.{Accepted, Refused}
 use Rattle.measure.specs.Check.{onRead, proposalVerdict, checkOf, verdictFor}
@@ -95,29 +93,11 @@ module _ (job : List ℕ) (k : ℕ) (reads : readJob job .outcome ≡ Done k) (v
         multipliers-small = multipliers-allowed .small;
       }) .proposed
 
-  small : (i : ℕ) → natAbs (wordAt words i) ≤ mostMultiplier
-  small i = go (ltb i (j .cells)) (ltb i (j .cells + j .links)) refl refl
-    where
-      go : (a b : Bool) → ltb i (j .cells) ≡ a → ltb i (j .cells + j .links) ≡ b → natAbs (wordAt words i) ≤ mostMultiplier
-      go true b e f = omega (arith, proposed .value i (ltb-true i (j .cells) e) .small)
-      go false true e f =
-          let h = ltb-false i (j .cells) e in
-          let l = ltb-true i (j .cells + j .links) f in
-          let q : j .cells + (i - j .cells) ≡ i = omega arith in
-          subst (λ (m : ℕ). natAbs (wordAt words m) ≤ mostMultiplier) q (proposed .multiplier (i - j .cells) (omega arith) .small)
-      go false false e f =
-          let h = ltb-false i (j .cells + j .links) f in
-          let q : wordAt words i ≡ pos 0 = List·getD-eq-default words (pos 0) (omega (arith, proposed .count)) in
-          subst (λ (z : ℤ). natAbs z ≤ mostMultiplier) (sym q) (omega arith)
-
-  fit : AllWords words
-  fit i = small-fits (wordAt words i) (small i) (lit< tt)
-
   abbrev pack : List ℕ
   pack = writeProposal (j .cells) (j .links) words .bytes
 
   read-back : proposalIn job pack ≡ record { words = words; outcome = Done (length words) }
-  read-back = let w = allowed-proposals-written (j .cells) (j .links) words proposed in proposals-read-back (j .cells) (j .links) words fit (w .0) (w .1)
+  read-back = proposed-read-back (j .cells) (j .links) words proposed
 
   checked : checkOf job pack ≡ keptVerdict j v y
   checked =

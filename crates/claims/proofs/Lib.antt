@@ -34,3 +34,6 @@ pub mod FetchTold
 pub mod Seen
 pub mod HandedTerms
 pub mod BenchPromises
+pub mod TurnedCheck
+pub mod Ways
+pub mod Reversed

@@ -50,10 +50,10 @@ problemOf j = record {
 }
 
 module _ (j : Job) where
-  inside : Inside (familyOf j) (j .cells)
+  pub inside : Inside (familyOf j) (j .cells)
   inside f h = omega arith
 
-  inside-across : Inside (familyAcross j) (j .cells)
+  pub inside-across : Inside (familyAcross j) (j .cells)
   inside-across f h = omega arith
 
   -- a masked constant is a masked difference

@@ -14,3 +14,5 @@ pub mod ShelfPromises
 pub mod HousePromises
 pub mod Seen
 pub mod BenchPromises
+pub mod Reversed
+pub mod ReversedPromises

@@ -32,7 +32,7 @@ oneLink = 1 ∷ 2 ∷ 0 ∷ 1 ∷ 1 ∷ 2 ∷ 0 ∷ []
 abbrev pub plain : (tolerance : List ℕ) (u₀ u₁ u₂ : ℕ) → List ℕ
 plain tolerance u₀ u₁ u₂ = jobPack tolerance (cell u₀ 1) (cell u₁ 1) (cell u₂ 1) noLink
 
-abbrev linked : (tolerance : List ℕ) (u₀ u₁ u₂ : ℕ) → List ℕ
+abbrev pub linked : (tolerance : List ℕ) (u₀ u₁ u₂ : ℕ) → List ℕ
 linked tolerance u₀ u₁ u₂ = jobPack tolerance (cell u₀ 1) (cell u₁ 1) (cell u₂ 1) oneLink
 
 abbrev hollow : (tolerance : List ℕ) (u₀ u₁ u₂ : ℕ) → List ℕ

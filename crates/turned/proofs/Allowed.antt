@@ -1,25 +1,27 @@
 -- An allowed job whose rows and columns are turned about is allowed, and its words lie as a pack's numbers do.
-use Prim.Native.Nat.{ℕ, suc, _+_, _*_, _≤_, _<_}
+use Prim.Native.Nat.{ℕ, zero, suc, _+_, _*_, _≤_, _<_}
 use mathlib.Core.Path.{_≡_, sym, ap, subst, subst₂, _∙_}
 use mathlib.Core.Bool.{Bool, true, false}
 use mathlib.Core.List.{List}
 use native.Mathlib.Nat as N
 use native.Mathlib.Omega.{arith}
 use lib.IntN.{ℤ, pos, natAbs}
+use lib.ListN.{length}
 use lib.Signed.{_≤ℤ_}
 use Rattle.whole.specs.Turned.{gridMap}
 use Rattle.whole.proofs.Turned.{Involution}
 use Rattle.whole.proofs.Grids.{grid-turned}
 use Rattle.jobs.specs.Job.{Job, linkCoefficient}
-use Rattle.jobs.specs.Words.{wordAt, headWords, isGrid, cellsOf, rowsOf, columnsOf, linksOf, startOf, jobOf}
-use Rattle.jobs.specs.Allowed.{Upto, CellAllowed, TermAllowed, LinkAllowed, rowsHeld, GridAllowed, LineAllowed, ShapeAllowed, Allowed, Counted, Laid}
+use Rattle.jobs.specs.Words.{wordAt, headWords, cellsOf, rowsOf, columnsOf, linksOf, startOf, jobOf}
+use Rattle.jobs.specs.Allowed.{Upto, CellAllowed, TermAllowed, LinkAllowed, rowsHeld, ShapeAllowed, Allowed, Counted, Laid}
+use Rattle.jobs.proofs.Places.{start-zero, start-suc}
 use Rattle.turned.specs.Words.{turnedWords}
 use Rattle.turned.specs.About.{TurnedAbout}
 use Rattle.turned.proofs.Named.{term-at, terms-rise, coefficient-most}
-use Rattle.turned.proofs.Words.{coefficients, count, links-word, ends-there, terms-word, turned-terms, cell-there, coefficient-there}
+use Rattle.turned.proofs.Words.{coefficients, count, same-head, links-word, ends-there, terms-word, turned-terms, cell-there, coefficient-there}
 use Rattle.turned.proofs.Shape.{counted-first, grid-laid}
 use Rattle.turned.proofs.Held.{same-held}
-use Rattle.turned.proofs.About.{same-count, turned-about}
+use Rattle.turned.proofs.About.{turned-about}
 
 counted-of : (ws : List ℤ) (at c : ℕ) → wordAt ws at ≡ pos c → Counted ws at
 counted-of ws at c e = e ∙ ap pos (sym (ap natAbs e))
@@ -42,7 +44,7 @@ module _ (ws : List ℤ) (L : Laid ws) (A : Allowed (jobOf ws)) (τ : ℕ → �
   among : (l : ℕ) → l < linksOf ws′ → l < linksOf ws
   among l h = subst (λ (n : ℕ). l < n) (T .links) h
 
-  turned-laid : Laid ws′
+  pub turned-laid : Laid ws′
   turned-laid = record {
     society = counted-first ws L τ 0 (omega arith) (L .society);
     number = counted-first ws L τ 1 (omega arith) (L .number);
@@ -57,6 +59,15 @@ module _ (ws : List ℤ) (L : Laid ws) (A : Allowed (jobOf ws)) (τ : ℕ → �
         counted-of ws′ (startOf ws′ l + 1 + 2 * m) (t .cell) (cell-there ws L τ l (among l h) m q ∙ t .is);
     ends = ends-there ws L τ;
   }
+
+  -- as many words
+  same-start : (l : ℕ) → l ≤ linksOf ws → startOf ws′ l ≡ startOf ws l
+  same-start zero h = omega (arith, start-zero ws′, start-zero ws, same-head ws L τ, T .cells)
+  same-start (suc l) h = omega (arith, start-suc ws′ l, start-suc ws l, same-start l (N.le-of-suc-le h), T .terms l h)
+
+  pub same-length : length ws′ ≡ length ws
+  same-length =
+      sym (ends-there ws L τ) ∙ ap (startOf ws′) (T .links) ∙ same-start (linksOf ws) (N.le-refl (linksOf ws)) ∙ L .ends
 
   cell-allowed : (i : ℕ) → i < cellsOf ws → CellAllowed r i
   cell-allowed i h =

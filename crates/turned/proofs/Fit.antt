@@ -1,8 +1,8 @@
 -- The turned words fit 64 bits: so they are written, and what is written reads back.
-use Prim.Native.Nat.{ℕ, zero, suc, _+_, _-_, _*_, _≤_, _<_, zero-le}
+use Prim.Native.Nat.{ℕ, zero, suc, _+_, _-_, _≤_, _<_, zero-le}
 use mathlib.Core.Path.{_≡_, refl, sym, ap, subst, _∙_}
 use mathlib.Core.Bool.{Bool, true, false}
-use mathlib.Core.List.{List, [], _∷_, _++_}
+use mathlib.Core.List.{List, [], _∷_}
 use native.Mathlib.Nat as N
 use native.Mathlib.Omega.{arith}
 use borrow.Author.Tests.{ltb-true, ltb-false}
@@ -12,7 +12,7 @@ use lib.Seq.{getD-drop}
 use Rattle.whole.proofs.Turned.{Involution}
 use Rattle.whole.proofs.Fits.{small-fits}
 use Rattle.packs.specs.Promises.{AllWords}
-use Rattle.jobs.specs.Words.{wordAt, headWords, isGrid, cellsOf, linksOf, rowsOf, columnsOf, jobOf}
+use Rattle.jobs.specs.Words.{wordAt, headWords, isGrid, cellsOf, linksOf, rowsOf, jobOf}
 use Rattle.jobs.specs.Allowed.{Allowed, Laid}
 use Rattle.jobs.proofs.Places.{head-of-grid, head-of-line, columns-some}
 use Rattle.jobs.proofs.Counts.{order-counts, columns-counts, down-counts, across-counts}

@@ -1,6 +1,6 @@
 -- Refusal 4 in reverse: as many rows hold the order across of positive weights. Within a row the columns are turned about, and then the rows themselves; neither count
 -- sees it.
-use Prim.Native.Nat.{ℕ, zero, suc, _+_, _*_, _<_}
+use Prim.Native.Nat.{ℕ, _+_, _*_, _<_}
 use mathlib.Core.Path.{_≡_, refl, sym, ap, ap₂, _∙_}
 use mathlib.Core.Bool.{Bool}
 use native.Mathlib.Nat as N

@@ -1,6 +1,6 @@
 -- What a job's head says is said of the turned words too: they have the same head.
 use Prim.Native.Nat.{ℕ, _-_, _<_}
-use mathlib.Core.Path.{_≡_, refl, sym, ap, ap₂, _∙_}
+use mathlib.Core.Path.{_≡_, refl, sym, ap, _∙_}
 use mathlib.Core.Bool.{Bool, true, false}
 use mathlib.Core.List.{List}
 use native.Mathlib.Nat as N
@@ -8,7 +8,7 @@ use native.Mathlib.Omega.{arith}
 use lib.IntN.{ℤ, pos, natAbs}
 use Rattle.numbers.specs.Choice.{if_then_else_}
 use Rattle.fields.specs.Table.{orderUsed}
-use Rattle.jobs.specs.Words.{wordAt, countAt, headWords, isGrid, cellsOf, rowsOf, columnsOf, orderOf, acrossOf, secondOf, jobOf}
+use Rattle.jobs.specs.Words.{wordAt, countAt, headWords, isGrid, rowsOf, columnsOf, orderOf, acrossOf, secondOf, jobOf}
 use Rattle.jobs.specs.Allowed.{Laid, Counted, GridLaid}
 use Rattle.jobs.proofs.Places.{head-some, head-of-grid}
 use Rattle.turned.specs.Words.{turnedWords}

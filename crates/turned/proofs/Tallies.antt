@@ -3,7 +3,7 @@ use Prim.Native.Nat.{ℕ, zero, suc, _+_, _<_}
 use mathlib.Core.Path.{_≡_, sym, ap, ap₂, _∙_}
 use mathlib.Core.Bool.{Bool}
 use native.Mathlib.Nat as N
-use lib.IntN.{ℤ, pos, natAbs, _+ℤ_}
+use lib.IntN.{pos, natAbs, _+ℤ_}
 use Rattle.numbers.specs.Choice.{if_then_else_}
 use Rattle.whole.specs.Sum.{sum}
 use Rattle.whole.proofs.Sums.{sum-zero, sum-ext, sum-cong}

@@ -38,7 +38,7 @@ module _ (row : ℕ → ℤ) (order rows columns : ℕ) (α β : ℕ → ℕ) (C
     ρ = C .ρ;
     s = C .s;
     sign = C .sign;
-    differences = subst (λ (k : ℕ). Involution k (gridMap columns (C .φ) β)) many (grid-turned (rows - order) columns (C .φ) β (C .differences) J);
+    differences = grid-turned (rows - order) columns many (C .φ) β (C .differences) J;
     coefficients = C .coefficients;
     row = C .row;
     alike = λ f h. refl;

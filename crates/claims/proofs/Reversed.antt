@@ -28,7 +28,7 @@ use Rattle.jobs.proofs.Trips.{allowed-jobs-written, jobs-written-back, jobs-rea
 use Rattle.turned.specs.Words.{turnedWords, turnedValues}
 use Rattle.turned.specs.About.{TurnedAbout}
 use Rattle.turned.proofs.About.{turned-about}
-use Rattle.turned.proofs.Allowed.{turned-laid, same-length, grid-allowed}
+use Rattle.turned.proofs.Allowed.{turned-laid, same-length, turned-allowed}
 use Rattle.turned.proofs.Fit.{words-fit}
 use Rattle.turned.proofs.Again.{words-again, words-twice}
 use Rattle.turned.proofs.Values.{turned-value, turned-multiplier, turned-proposed, values-again, values-twice}
@@ -42,7 +42,7 @@ use Rattle.bench.specs.Calls.{outcomeOf}
 use Rattle.bench.proofs.Small.{Small, check-small}
 use Rattle.claims.specs.Read.{jobIn, proposalIn, valuesIn, multipliersIn, Reads, BothRead}
 use Rattle.claims.specs.Reversed.{Way, rowsAlone, columnsAlone, bothTogether, rowFrom, columnFrom, cellFrom, reversedJob, reversedProposal, unplaced}
-use Rattle.claims.specs.ReversedPromises.{TableTurned, ReversedReads, ReversedIs, FromLast, CheckedInReverse, CheckedAlike, ToldInReverse, ReversedTwice, BothIsEach, ReversedExamples}
+use Rattle.claims.specs.ReversedPromises.{TableTurned, ReversedReads, ReversedIs, CellsFromLast, CheckedInReverse, CheckedAlike, ToldInReverse, ReversedTwice, BothIsEach, ReversedExamples}
 use Rattle.claims.proofs.Accepted.{on-both}
 use Rattle.claims.proofs.TurnedCheck.{turned-verdict}
 use Rattle.claims.proofs.Ways.{rows-turned, columns-turned, cells-turned, down-carried, across-carried, both-from-last, line-from-last, rows-then-columns}
@@ -72,13 +72,13 @@ module _ (job : List ℕ) (reads : Reads (readJob job .outcome)) where
     about : TurnedAbout τ (jobIn job) (jobOf turned)
     about = turned-about words laid allowed τ involution
 
-    turned-allowed : Allowed (jobOf turned)
-    turned-allowed =
-        grid-allowed words laid allowed (rowFrom way (rowsOf words)) (columnFrom way (columnsOf words)) (rows-turned way (rowsOf words)) (columns-turned way (columnsOf words))
+    allowed-too : Allowed (jobOf turned)
+    allowed-too =
+        turned-allowed words laid allowed (rowFrom way (rowsOf words)) (columnFrom way (columnsOf words)) (rows-turned way (rowsOf words)) (columns-turned way (columnsOf words))
 
     job-back : readJob (reversedJob way job) ≡ record { words = turned; outcome = Done (length turned) }
     job-back =
-        let w = allowed-jobs-written turned (turned-laid words laid allowed τ involution) turned-allowed in
+        let w = allowed-jobs-written turned (turned-laid words laid allowed τ involution) allowed-too in
         jobs-read-back turned (words-fit words laid allowed τ involution) (w .0) (w .1)
 
     words-back : readJob (reversedJob way job) .words ≡ turned
@@ -152,7 +152,7 @@ module _ (job : List ℕ) (reads : Reads (readJob job .outcome)) where
 pub reversed-reads : ReversedReads
 reversed-reads = record {
   jobs = λ way job k e. job-reads job (k, e) way;
-  allowed = λ way job r. subst (λ (w : List ℤ). Allowed (jobOf w)) (sym (words-back job r way)) (turned-allowed job r way);
+  allowed = λ way job r. subst (λ (w : List ℤ). Allowed (jobOf w)) (sym (words-back job r way)) (allowed-too job r way);
   proposals = λ way job proposal B. both-read job (B .job-reads) way proposal (B .proposal-reads);
 }
 
@@ -162,8 +162,8 @@ reversed-is = record {
   tables = λ way job proposal B. table-turned job (B .job-reads) way proposal (B .proposal-reads);
 }
 
-pub from-last : FromLast
-from-last = record { both = both-from-last; line = line-from-last }
+pub cells-from-last : CellsFromLast
+cells-from-last = record { both = both-from-last; line = line-from-last }
 
 pub checked-alike : CheckedAlike
 checked-alike way job proposal job′ proposal′ B B′ T W =

@@ -65,8 +65,7 @@ module _ (j : Job) (A : Allowed j) where
 
   pub cells-turned : (way : Way) → Involution (j .cells) (cellFrom way j)
   cells-turned way =
-      subst (λ (n : ℕ). Involution n (cellFrom way j)) (A .cells-are)
-      (grid-turned (j .rows) (j .columns) (rowFrom way (j .rows)) (columnFrom way (j .columns)) (rows-turned way (j .rows)) (columns-turned way (j .columns)))
+      grid-turned (j .rows) (j .columns) (A .cells-are) (rowFrom way (j .rows)) (columnFrom way (j .columns)) (rows-turned way (j .rows)) (columns-turned way (j .columns))
 
   pub down-carried : (way : Way) → Carried (familyOf j) each (cellFrom way j)
   down-carried way =

@@ -36,7 +36,7 @@ pub record ReversedIs : Type 0 where
       → TableTurned (cellFrom way (jobIn job)) job proposal (reversedJob way job) (reversedProposal way job proposal)
 
 -- Which cell that is: of both together the cells from the last to the first, and the same of the rows alone of a job that is no grid.
-pub record FromLast : Type 0 where
+pub record CellsFromLast : Type 0 where
   pub both : (j : Job) → Allowed j → (i : ℕ) → i < j .cells → cellFrom bothTogether j i ≡ fromLast (j .cells) i
   pub line : (j : Job) → Allowed j → j .grid ≡ false → (i : ℕ) → i < j .cells → cellFrom rowsAlone j i ≡ fromLast (j .cells) i
 

@@ -152,20 +152,20 @@ module _ (ws : List ℤ) (L : Laid ws) (A : Allowed (jobOf ws)) (τ : ℕ → �
 -- ---- rows and columns
 
 module _ (ws : List ℤ) (L : Laid ws) (A : Allowed (jobOf ws)) (α β : ℕ → ℕ) (I : Involution (rowsOf ws) α) (J : Involution (columnsOf ws) β) where
-  abbrev pub τ : ℕ → ℕ
-  τ = gridMap (columnsOf ws) α β
+  abbrev rows-and-columns : ℕ → ℕ
+  rows-and-columns = gridMap (columnsOf ws) α β
 
-  pub cells-turned : Involution (cellsOf ws) τ
-  cells-turned = subst (λ (n : ℕ). Involution n τ) (A .cells-are) (grid-turned (rowsOf ws) (columnsOf ws) α β I J)
+  K : Involution (cellsOf ws) rows-and-columns
+  K = grid-turned (rowsOf ws) (columnsOf ws) (A .cells-are) α β I J
 
-  pub grid-about : TurnedAbout τ (jobOf ws) (jobOf (turnedWords τ ws))
-  grid-about = turned-about ws L A τ cells-turned
+  R : TurnedAbout rows-and-columns (jobOf ws) (jobOf (turnedWords rows-and-columns ws))
+  R = turned-about ws L A rows-and-columns K
 
-  pub grid-allowed : Allowed (jobOf (turnedWords τ ws))
-  grid-allowed =
-      allowed-if ws L A τ cells-turned
+  pub turned-allowed : Allowed (jobOf (turnedWords rows-and-columns ws))
+  turned-allowed =
+      allowed-if ws L A rows-and-columns K
       (subst (λ (n : ℕ). jobOf ws .order ≤ n)
       (sym
-      (same-held (jobOf ws) (jobOf (turnedWords τ ws)) (grid-about .columns) (grid-about .across) (rowsOf ws) α β I J
-      (λ i h. grid-about .weight i (subst (λ (n : ℕ). i < n) (A .cells-are) h))))
+      (same-held (jobOf ws) (jobOf (turnedWords rows-and-columns ws)) (R .columns) (R .across) (rowsOf ws) α β I J
+      (λ i h. R .weight i (subst (λ (n : ℕ). i < n) (A .cells-are) h))))
       (A .weights))

@@ -37,16 +37,18 @@ module _ (rows columns : ℕ) (P : ℕ → Type 0) (each-cell : (r c : ℕ) → 
           go (inl e) = absurd (N.not-suc-le-zero (subst (λ (x : ℕ). i < x) (ap (λ (x : ℕ). rows * x) e ∙ N.mul-zero rows) h))
           go (inr l) = l
 
--- the cells are turned about if rows and columns are
-pub grid-turned : (rows columns : ℕ) (α β : ℕ → ℕ) → Involution rows α → Involution columns β → Involution (rows * columns) (gridMap columns α β)
-grid-turned rows columns α β I J = record {
-  stays = by-rows rows columns (λ i. gridMap columns α β i < rows * columns)
-      (λ r c h k. subst (λ (x : ℕ). x < rows * columns) (sym (map-at columns α β r c k)) (cell-inside rows columns (α r) (β c) (I .stays r h) (J .stays c k)));
-  twice = by-rows rows columns (λ i. gridMap columns α β (gridMap columns α β i) ≡ i)
-      (λ r c h k.
-      ap (gridMap columns α β) (map-at columns α β r c k) ∙ map-at columns α β (α r) (β c) (J .stays c k)
-      ∙ ap₂ (λ (x y : ℕ). x * columns + y) (I .twice r h) (J .twice c k));
-}
+-- the n cells are turned about if rows and columns are
+pub grid-turned : {n : ℕ} (rows columns : ℕ) → rows * columns ≡ n → (α β : ℕ → ℕ) → Involution rows α → Involution columns β
+    → Involution n (gridMap columns α β)
+grid-turned rows columns e α β I J =
+    subst (λ (n : ℕ). Involution n (gridMap columns α β)) e record {
+      stays = by-rows rows columns (λ i. gridMap columns α β i < rows * columns)
+          (λ r c h k. subst (λ (x : ℕ). x < rows * columns) (sym (map-at columns α β r c k)) (cell-inside rows columns (α r) (β c) (I .stays r h) (J .stays c k)));
+      twice = by-rows rows columns (λ i. gridMap columns α β (gridMap columns α β i) ≡ i)
+          (λ r c h k.
+          ap (gridMap columns α β) (map-at columns α β r c k) ∙ map-at columns α β (α r) (β c) (J .stays c k)
+          ∙ ap₂ (λ (x y : ℕ). x * columns + y) (I .twice r h) (J .twice c k));
+    }
 
 -- both from the last to the first is every cell from the last to the first
 pub grid-backwards : (rows columns i : ℕ) → i < rows * columns → gridMap columns (fromLast rows) (fromLast columns) i ≡ fromLast (rows * columns) i

@@ -241,9 +241,10 @@ told-in-reverse = record {
       (sym (told-rest v) ∙ ap (λ (u : Verdict). drop 2 (answerWords (answerOf u))) e ∙ told-rest w)
       (f .returns) (f .answers) (g .returns) (g .answers);
   read = λ way job q words answer r s a b x y f g.
-      let e : readJobInto (length words) (reversedJob way job) .outcome ≡ readJobInto (length words) job .outcome = same-outcome way job q (length words) in
-      (g .returns ∙ ap (λ (o : Outcome). returnedFor answer (outcomeOf o)) e ∙ sym (f .returns),
-      g .answers ∙ ap (λ (o : Outcome). writtenFor answer (outcomeOf o)) e ∙ sym (f .answers));
+      let e : readJobInto (length words) (reversedJob way job) .outcome ≡ readJobInto (length words) job .outcome = same-outcome way job q (length words) in (
+        g .returns ∙ ap (λ (o : Outcome). returnedFor answer (outcomeOf o)) e ∙ sym (f .returns),
+        g .answers ∙ ap (λ (o : Outcome). writtenFor answer (outcomeOf o)) e ∙ sym (f .answers),
+      );
 }
   where
     -- how handing words out ends does not depend on the words

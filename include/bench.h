@@ -2,8 +2,8 @@
  *
  * The bench reads a job (one society's table to be graduated: a line of ages, or a grid for a select table), checks a proposed table with its
  * multipliers, makes a proposal of its own, and keeps accepted tables on a shelf that the caller lends. Document 01 has the rules, with request
- * W-205 for grids, W-203 for a fetch that checks, W-209 for counts of slots, W-202 for the terms of a gap and W-208 for how far off a rate can be; this
- * page has what a caller needs.
+ * W-205 for grids, W-203 for a fetch that checks, W-209 for counts of slots, W-202 for the terms of a gap, W-208 for how far off a rate can be and W-213
+ * for jobs written in reverse; this page has what a caller needs.
  *
  * WHAT EVERY CALL DOES
  *
@@ -86,6 +86,19 @@
  *
  * Together the weighted squares of the differences, plus each constant times the squared differences of those, come to at most 4*G; less cannot be
  * promised. docs/FAR.md says it for actuaries.
+ *
+ * A JOB WRITTEN IN REVERSE
+ *
+ * Ages may be listed from the oldest to the youngest. A job pack and a proposal pack that can be read, written in reverse, get the same number from
+ * bench_check, with the same F and G; the place may be another. Written in reverse are the cells, each with its u, w, floor, ceiling and value, and the cells
+ * that links name; the terms of a link are put in rising order again. Links and multipliers keep their order, and all else stays, an order field of 0 too. Of a
+ * line cell i becomes cell n-1-i. Of a grid the rows alone may be reversed (row r becomes row rows-1-r), the columns alone (column c becomes
+ * columns-1-c), or both together. Packs in reverse can be read too, into as many numbers, and twice in reverse they are the packs that they were.
+ *
+ *     of three cells the link -v0 + v1 <= 0, in a pack 2  0 1  1 2  0, becomes v1 - v2 <= 0, in a pack 2  1 2  2 1  0
+ *
+ * bench_propose rounds each operation, so of it nothing of the kind is promised. A shelf keeps values in the order in which they came: fetch a table with a job
+ * that has its cells in the order of the job that it was kept under. docs/REVERSED.md says it for societies.
  *
  * THE SHELF
  *

@@ -12,11 +12,12 @@
 #include <stdlib.h>
 #include <string.h>
 
-/* A draft, its packs, and what the bench answers to them. The terms are listed where the table meets the job. */
+/* A draft, its packs, and what the bench answers to them: to the check, and to reading the job's numbers into room enough and into too little. The terms are
+ * listed where the table meets the job. */
 struct asked {
     struct draft draft;
     struct bytes job, proposal;
-    uint64_t number, place, loss, gap;
+    uint64_t number, place, loss, gap, read, read_short;
     bool listed;
     int64_t terms[BENCH_MOST_TERM_WORDS];
 };
@@ -44,6 +45,13 @@ static bool list_terms(struct asked *s)
     return BENCH_NUMBER(said) == BENCH_DONE;
 }
 
+static uint64_t read_numbers(const struct asked *s, size_t room)
+{
+    static int64_t words[BENCH_MOST_JOB_WORDS];
+    uint64_t answer[BENCH_ANSWER_WORDS];
+    return bench_read(s->job.at, s->job.count, words, room, answer, BENCH_ANSWER_WORDS);
+}
+
 static void ask(struct asked *s)
 {
     uint64_t answer[BENCH_ANSWER_WORDS];
@@ -53,6 +61,8 @@ static void ask(struct asked *s)
     s->place = answer[1];
     s->loss = answer[2];
     s->gap = answer[3];
+    s->read = read_numbers(s, BENCH_MOST_JOB_WORDS);
+    s->read_short = read_numbers(s, 1);
     s->listed = meets(s) && list_terms(s);
 }
 
@@ -141,6 +151,8 @@ static const char *wrong_in(enum way way)
         return "the numbers differ";
     if (turned.loss != plain.loss || turned.gap != plain.gap)
         return "loss or gap differ";
+    if (turned.read != plain.read || turned.read_short != plain.read_short)
+        return "reading the job's numbers answers otherwise";
     if (plain.listed != meets(&plain) || turned.listed != meets(&turned))
         return "the terms of the gap are not listed";
     if (plain.listed && other_term(way) < places())

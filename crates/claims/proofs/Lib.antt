@@ -37,3 +37,4 @@ pub mod BenchPromises
 pub mod TurnedCheck
 pub mod Ways
 pub mod Reversed
+pub mod ReversedPromises

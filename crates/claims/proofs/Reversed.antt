@@ -1,62 +1,43 @@
--- Packs written in reverse (W-213): the laws of words turned about, for the three ways.
-use Prim.Native.Nat.{ℕ, suc, _+_, _*_, _%_, _≤_, _<_}
-use mathlib.Core.Path.{_≡_, refl, sym, ap, ap₂, subst, _∙_}
-use mathlib.Core.Bool.{Bool, true, false}
-use mathlib.Core.List.{List, []}
-use native.Mathlib.Nat as N
+-- Packs written in reverse (W-213): they read back as the words turned about, a job and its proposal, and reversed again they are turned about once.
+use Prim.Native.Nat.{ℕ}
+use mathlib.Core.Path.{_≡_, sym, ap, ap₂, subst, _∙_}
+use mathlib.Core.List.{List}
 use native.Mathlib.Omega.{arith}
-use lib.Dec.{ltb}
 use lib.IntN.{ℤ}
-use lib.ListN.{length, drop}
-use Rattle.numbers.specs.Plain.{numberIn, bytesIn}
-use Rattle.numbers.specs.Choice.{if_then_else_}
-use Rattle.fields.specs.Table.{stepOf, valuesFrom}
-use Rattle.whole.specs.Sum.{sum}
+use lib.ListN.{length}
 use Rattle.whole.specs.Turned.{gridMap}
 use Rattle.whole.proofs.Turned.{Involution}
 use Rattle.packs.specs.declared.Outcome.{Outcome}
-use Rattle.packs.specs.declared.Outcome.the-variants.{Done, Refused as Refuses}
-use Rattle.packs.specs.Reading.{Ran, runFrom, readFrom}
-use Rattle.packs.specs.Writing.{Written, writeFrom}
-use Rattle.packs.proofs.Trips.{writing-back}
-use Rattle.jobs.specs.Job.{Job}
-use Rattle.jobs.specs.Words.{cellsOf, rowsOf, columnsOf, linksOf, startOf, headWords, orderOf, acrossOf, secondOf, jobOf}
+use Rattle.packs.specs.declared.Outcome.the-variants.{Done}
+use Rattle.packs.specs.Reading.{Ran}
+use Rattle.jobs.specs.Words.{cellsOf, rowsOf, columnsOf, linksOf, jobOf}
 use Rattle.jobs.specs.Allowed.{Allowed, Laid, Proposed}
-use Rattle.jobs.specs.Packs.{readJob, writeJob, readProposal, writeProposal, handedOut, readJobInto}
-use Rattle.jobs.proofs.Readings.{read-jobs-allowed, read-jobs-laid, read-words-counted, read-proposals-proposed, six-done}
-use Rattle.jobs.proofs.Trips.{allowed-jobs-written, jobs-written-back, jobs-read-back, proposed-read-back}
+use Rattle.jobs.specs.Packs.{readJob, writeJob, readProposal, writeProposal}
+use Rattle.jobs.proofs.Readings.{read-jobs-allowed, read-jobs-laid, read-words-counted, read-proposals-proposed}
+use Rattle.jobs.proofs.Trips.{allowed-jobs-written, jobs-read-back, proposed-read-back}
 use Rattle.turned.specs.Words.{turnedWords, turnedValues}
 use Rattle.turned.specs.About.{TurnedAbout}
 use Rattle.turned.proofs.About.{turned-about}
 use Rattle.turned.proofs.Allowed.{turned-laid, same-length, turned-allowed}
 use Rattle.turned.proofs.Fit.{words-fit}
-use Rattle.turned.proofs.Again.{words-again, words-twice}
-use Rattle.turned.proofs.Values.{turned-value, turned-multiplier, turned-proposed, values-again, values-twice}
-use Rattle.measure.specs.declared.check.Verdict.{Verdict}
-use Rattle.measure.specs.declared.check.Verdict.the-variants.{Accepted, Refused}
-use Rattle.measure.specs.Check.{valuesOf, multipliersOf, checkOf}
-use Rattle.checked.specs.declared.Answer.{Answer}
-use Rattle.checked.specs.Answers.{answerOf}
-use Rattle.bench.specs.Answers.{codeOf, answerWords, hasFour, noAnswer, returnedFor, writtenFor}
-use Rattle.bench.specs.Calls.{outcomeOf}
-use Rattle.bench.proofs.Small.{Small, check-small}
-use Rattle.claims.specs.Read.{jobIn, proposalIn, valuesIn, multipliersIn, Reads, BothRead}
-use Rattle.claims.specs.Reversed.{Way, rowsAlone, columnsAlone, bothTogether, rowFrom, columnFrom, cellFrom, reversedJob, reversedProposal, unplaced}
-use Rattle.claims.specs.ReversedPromises.{TableTurned, ReversedReads, ReversedIs, CellsFromLast, CheckedInReverse, CheckedAlike, ToldInReverse, ReversedTwice, BothIsEach, ReversedExamples}
-use Rattle.claims.proofs.Accepted.{on-both}
-use Rattle.claims.proofs.TurnedCheck.{turned-verdict}
-use Rattle.claims.proofs.Ways.{rows-turned, columns-turned, cells-turned, down-carried, across-carried, both-from-last, line-from-last, rows-then-columns}
+use Rattle.turned.proofs.Again.{words-twice}
+use Rattle.turned.proofs.Values.{turned-value, turned-multiplier, turned-proposed, values-twice}
+use Rattle.measure.specs.Check.{valuesOf, multipliersOf}
+use Rattle.claims.specs.Read.{jobIn, proposalIn, Reads, BothRead}
+use Rattle.claims.specs.Reversed.{Way, rowFrom, columnFrom, cellFrom, reversedJob, reversedProposal}
+use Rattle.claims.specs.ReversedPromises.{TableTurned}
+use Rattle.claims.proofs.Ways.{rows-turned, columns-turned, cells-turned}
 
 -- ---- a job pack
 
 module _ (job : List ℕ) (reads : Reads (readJob job .outcome)) where
-  abbrev words : List ℤ
+  abbrev pub words : List ℤ
   words = readJob job .words
 
-  laid : Laid words
+  pub laid : Laid words
   laid = read-jobs-laid job (reads .0) (reads .1)
 
-  allowed : Allowed (jobIn job)
+  pub allowed : Allowed (jobIn job)
   allowed = read-jobs-allowed job (reads .0) (reads .1)
 
   module _ (way : Way) where
@@ -72,7 +53,7 @@ module _ (job : List ℕ) (reads : Reads (readJob job .outcome)) where
     about : TurnedAbout τ (jobIn job) (jobOf turned)
     about = turned-about words laid allowed τ involution
 
-    allowed-too : Allowed (jobOf turned)
+    pub allowed-too : Allowed (jobOf turned)
     allowed-too =
         turned-allowed words laid allowed (rowFrom way (rowsOf words)) (columnFrom way (columnsOf words)) (rows-turned way (rowsOf words)) (columns-turned way (columnsOf words))
 
@@ -81,15 +62,15 @@ module _ (job : List ℕ) (reads : Reads (readJob job .outcome)) where
         let w = allowed-jobs-written turned (turned-laid words laid allowed τ involution) allowed-too in
         jobs-read-back turned (words-fit words laid allowed τ involution) (w .0) (w .1)
 
-    words-back : readJob (reversedJob way job) .words ≡ turned
+    pub words-back : readJob (reversedJob way job) .words ≡ turned
     words-back = ap (λ (x : Ran). x .words) job-back
 
-    job-reads : readJob (reversedJob way job) .outcome ≡ Done (reads .0)
+    pub job-reads : readJob (reversedJob way job) .outcome ≡ Done (reads .0)
     job-reads =
         ap (λ (x : Ran). x .outcome) job-back
         ∙ ap {B = Outcome} Done (same-length words laid allowed τ involution ∙ sym (read-words-counted job (reads .0) (reads .1)))
 
-    about-back : TurnedAbout τ (jobIn job) (jobIn (reversedJob way job))
+    pub about-back : TurnedAbout τ (jobIn job) (jobIn (reversedJob way job))
     about-back = subst (λ (w : List ℤ). TurnedAbout τ (jobIn job) (jobOf w)) (sym words-back) about
 
     -- the map of the turned job is that of the job
@@ -97,7 +78,7 @@ module _ (job : List ℕ) (reads : Reads (readJob job .outcome)) where
     same-map other =
         ap₂ (λ (r c : ℕ). gridMap c (rowFrom other r) (columnFrom other c)) (about-back .rows) (about-back .columns)
 
-    job-again : (other : Way) → reversedJob other (reversedJob way job) ≡ writeJob (turnedWords (cellFrom other (jobIn job)) turned) .bytes
+    pub job-again : (other : Way) → reversedJob other (reversedJob way job) ≡ writeJob (turnedWords (cellFrom other (jobIn job)) turned) .bytes
     job-again other = ap₂ (λ (m : ℕ → ℕ) (w : List ℤ). writeJob (turnedWords m w) .bytes) (same-map other) words-back
 
     pub job-twice : writeJob words .bytes ≡ job → reversedJob way (reversedJob way job) ≡ job
@@ -123,10 +104,10 @@ module _ (job : List ℕ) (reads : Reads (readJob job .outcome)) where
       numbers-back : proposalIn (reversedJob way job) (reversedProposal way job proposal) .words ≡ others
       numbers-back = ap (λ (x : Ran). x .words) proposal-back
 
-      both-read : BothRead (reversedJob way job) (reversedProposal way job proposal)
+      pub both-read : BothRead (reversedJob way job) (reversedProposal way job proposal)
       both-read = record { job-reads = (reads .0, job-reads); proposal-reads = (length others, ap (λ (x : Ran). x .outcome) proposal-back) }
 
-      table-turned : TableTurned τ job proposal (reversedJob way job) (reversedProposal way job proposal)
+      pub table-turned : TableTurned τ job proposal (reversedJob way job) (reversedProposal way job proposal)
       table-turned = record {
         value = λ i h. ap (λ (w : List ℤ). valuesOf w i) numbers-back ∙ turned-value τ (cellsOf words) numbers i h;
         multiplier = λ l h.
@@ -136,136 +117,13 @@ module _ (job : List ℕ) (reads : Reads (readJob job .outcome)) where
       abbrev write : (c l : ℕ) (m : ℕ → ℕ) → List ℤ → List ℕ
       write c l m w = writeProposal c l (turnedValues m c w) .bytes
 
-      proposal-again : (other : Way) → reversedProposal other (reversedJob way job) (reversedProposal way job proposal)
+      pub proposal-again : (other : Way) → reversedProposal other (reversedJob way job) (reversedProposal way job proposal)
           ≡ write (cellsOf words) (linksOf words) (cellFrom other (jobIn job)) others
       proposal-again other = λ i. write (about-back .cells i) (about-back .links i) (same-map other i) (numbers-back i)
 
-      proposal-twice : writeProposal (cellsOf words) (linksOf words) numbers .bytes ≡ proposal
+      pub proposal-twice : writeProposal (cellsOf words) (linksOf words) numbers .bytes ≡ proposal
           → reversedProposal way (reversedJob way job) (reversedProposal way job proposal) ≡ proposal
       proposal-twice e =
           proposal-again way
           ∙ ap (λ (w : List ℤ). writeProposal (cellsOf words) (linksOf words) w .bytes)
           (values-twice τ (cellsOf words) numbers (omega (arith, proposed .count)) involution) ∙ e
-
--- ---- the promises
-
-pub reversed-reads : ReversedReads
-reversed-reads = record {
-  jobs = λ way job k e. job-reads job (k, e) way;
-  allowed = λ way job r. subst (λ (w : List ℤ). Allowed (jobOf w)) (sym (words-back job r way)) (allowed-too job r way);
-  proposals = λ way job proposal B. both-read job (B .job-reads) way proposal (B .proposal-reads);
-}
-
-pub reversed-is : ReversedIs
-reversed-is = record {
-  jobs = λ way job r. about-back job r way;
-  tables = λ way job proposal B. table-turned job (B .job-reads) way proposal (B .proposal-reads);
-}
-
-pub cells-from-last : CellsFromLast
-cells-from-last = record { both = both-from-last; line = line-from-last }
-
-pub checked-alike : CheckedAlike
-checked-alike way job proposal job′ proposal′ B B′ T W =
-    let A : Allowed (jobIn job) = allowed job (B .job-reads) in
-    ap unplaced (on-both job′ proposal′ B′)
-    ∙ turned-verdict T A (allowed job′ (B′ .job-reads)) (cells-turned (jobIn job) A way) (down-carried (jobIn job) A way) (across-carried (jobIn job) A way)
-    (valuesIn job proposal) (valuesIn job′ proposal′) (multipliersIn job proposal) (multipliersIn job′ proposal′) (W .value) (W .multiplier)
-    ∙ sym (ap unplaced (on-both job proposal B))
-
-pub checked-in-reverse : CheckedInReverse
-checked-in-reverse way job proposal B =
-    checked-alike way job proposal (reversedJob way job) (reversedProposal way job proposal) B (reversed-reads .proposals way job proposal B)
-    (reversed-is .jobs way job (B .job-reads)) (reversed-is .tables way job proposal B)
-
-pub reversed-twice : ReversedTwice
-reversed-twice = record {
-  jobs = λ way job small r. job-twice job r way (ap (λ (w : Written). w .bytes) (jobs-written-back job small (r .0) (r .1)));
-  proposals = λ way job proposal small B.
-      let first = valuesFrom (jobIn job .cells) (jobIn job .links) in
-      let k = B .proposal-reads .0 in
-      let e = six-done (readFrom first proposal .outcome) k (B .proposal-reads .1) in
-      proposal-twice job (B .job-reads) way proposal (B .proposal-reads) (ap (λ (w : Written). w .bytes) (writing-back first proposal small k e));
-}
-
-pub both-is-each : BothIsEach
-both-is-each = record {
-  jobs = λ job r.
-      let j : Job = jobIn job in
-      let A : Allowed j = allowed job r in
-      job-again job r rowsAlone columnsAlone
-      ∙ ap (λ (w : List ℤ). writeJob w .bytes)
-      (words-again (words job r) (laid job r) (cellFrom rowsAlone j) (cellFrom columnsAlone j) (cellFrom bothTogether j) (cells-turned j A columnsAlone .stays) (rows-then-columns j A));
-  proposals = λ job proposal B.
-      let r = B .job-reads in
-      let j : Job = jobIn job in
-      let A : Allowed j = allowed job r in
-      proposal-again job r rowsAlone proposal (B .proposal-reads) columnsAlone
-      ∙ ap (λ (w : List ℤ). writeProposal (j .cells) (j .links) w .bytes)
-      (values-again (cellFrom rowsAlone j) (cellFrom columnsAlone j) (cellFrom bothTogether j) (j .cells) (proposalIn job proposal .words) (cells-turned j A columnsAlone .stays) (rows-then-columns j A));
-}
-
--- ---- over C
-
--- what a verdict tells but for its place
-told-number : (v : Verdict) → answerOf (unplaced v) .number ≡ answerOf v .number
-told-number (Accepted F G) = refl
-told-number (Refused number place) = refl
-
-told-rest : (v : Verdict) → drop 2 (answerWords (answerOf (unplaced v))) ≡ drop 2 (answerWords (answerOf v))
-told-rest (Accepted F G) = refl
-told-rest (Refused number place) = refl
-
-same-number : (a b : Answer) → Small a → Small b → a .number ≡ b .number → codeOf a % 32 ≡ codeOf b % 32
-same-number a b s t e = omega (arith, s .number, t .number, e)
-
--- two answers that agree but for their place, told to callers with the same answer slice
-told-alike : {a b : Answer} (answer : List ℕ) {r s : ℕ} {x y : List ℕ} → Small a → Small b → a .number ≡ b .number
-    → drop 2 (answerWords a) ≡ drop 2 (answerWords b) → r ≡ returnedFor answer a → x ≡ writtenFor answer a → s ≡ returnedFor answer b → y ≡ writtenFor answer b
-    → (s % 32 ≡ r % 32) × (drop 2 y ≡ drop 2 x)
-told-alike {a} {b} answer f g n w p q u z = rw (p, q, u, z) (go (hasFour answer))
-  where
-    go : (t : Bool) → ((if t then codeOf b else codeOf noAnswer) % 32 ≡ (if t then codeOf a else codeOf noAnswer) % 32)
-        × (drop 2 (if t then answerWords b else answer) ≡ drop 2 (if t then answerWords a else answer))
-    go true = (same-number b a g f (sym n), sym w)
-    go false = (refl, refl)
-
-pub told-in-reverse : ToldInReverse
-told-in-reverse = record {
-  checked = λ way job proposal B answer r s a b f g.
-      let v : Verdict = checkOf job proposal in
-      let w : Verdict = checkOf (reversedJob way job) (reversedProposal way job proposal) in
-      let e : unplaced v ≡ unplaced w = sym (checked-in-reverse way job proposal B) in
-      told-alike answer (check-small job proposal) (check-small (reversedJob way job) (reversedProposal way job proposal))
-      (sym (told-number v) ∙ ap (λ (u : Verdict). answerOf u .number) e ∙ told-number w)
-      (sym (told-rest v) ∙ ap (λ (u : Verdict). drop 2 (answerWords (answerOf u))) e ∙ told-rest w)
-      (f .returns) (f .answers) (g .returns) (g .answers);
-  read = λ way job q words answer r s a b x y f g.
-      let e : readJobInto (length words) (reversedJob way job) .outcome ≡ readJobInto (length words) job .outcome = same-outcome way job q (length words) in (
-        g .returns ∙ ap (λ (o : Outcome). returnedFor answer (outcomeOf o)) e ∙ sym (f .returns),
-        g .answers ∙ ap (λ (o : Outcome). writtenFor answer (outcomeOf o)) e ∙ sym (f .answers),
-      );
-}
-  where
-    -- how handing words out ends does not depend on the words
-    handed : (room k : ℕ) (ws vs : List ℤ) → handedOut room ws (Done k) .outcome ≡ handedOut room vs (Done k) .outcome
-    handed room k ws vs = go (ltb room k)
-      where
-        ended : Bool → List ℤ → Ran
-        ended t ws = if t then record { words = []; outcome = Refuses 13 k } else record { words = ws; outcome = Done k }
-
-        go : (t : Bool) → ended t ws .outcome ≡ ended t vs .outcome
-        go true = refl
-        go false = refl
-
-    same-outcome : (way : Way) (job : List ℕ) → Reads (readJob job .outcome) → (room : ℕ) → readJobInto room (reversedJob way job) .outcome ≡ readJobInto room job .outcome
-    same-outcome way job q room =
-        ap (λ (o : Outcome). handedOut room (readJob (reversedJob way job) .words) o .outcome) (reversed-reads .jobs way job (q .0) (q .1))
-        ∙ handed room (q .0) (readJob (reversedJob way job) .words) (readJob job .words)
-        ∙ sym (ap (λ (o : Outcome). handedOut room (readJob job .words) o .outcome) (q .1))
-
--- ---- examples
-
-pub reversed-examples : ReversedExamples
-unfolding sum numberIn bytesIn stepOf runFrom writeFrom startOf headWords rowsOf columnsOf orderOf acrossOf secondOf turnedWords
-reversed-examples = record { job = refl; proposal = refl; rows = refl; columns = refl; both = refl }

@@ -1,18 +1,18 @@
 -- The three ways to reverse a job: rows and columns are each turned about or left, so its cells are turned about; and its differences, down and across, are carried, as
 -- every difference row read backwards is itself up to sign.
-use Prim.Native.Nat.{ℕ, suc, _+_, _-_, _*_, _≤_, _<_}
-use mathlib.Core.Path.{_≡_, refl, sym, ap, ap₂, subst, _∙_}
+use Prim.Native.Nat.{ℕ, _+_, _-_, _*_, _≤_, _<_}
+use mathlib.Core.Path.{_≡_, sym, ap, subst, _∙_}
 use mathlib.Core.Bool.{Bool, true, false}
 use native.Mathlib.Nat as N
 use native.Mathlib.Omega.{arith}
-use Rattle.whole.specs.Turned.{fromLast, gridMap}
+use Rattle.whole.specs.Turned.{fromLast}
 use Rattle.whole.proofs.Turned.{Involution, backwards, still}
 use Rattle.whole.proofs.Grids.{map-at, by-rows, grid-turned, grid-backwards}
 use Rattle.certificate.specs.Differences.{along, inRow}
 use Rattle.certificate.proofs.Turned.{each, Carried, Palindrome, backwards-carried, still-carried}
 use Rattle.certificate.proofs.Grids.{grid-down-carried, grid-across-carried}
 use Rattle.jobs.specs.Job.{Job}
-use Rattle.jobs.specs.Allowed.{Allowed, LineAllowed, GridAllowed, ShapeAllowed}
+use Rattle.jobs.specs.Allowed.{Allowed, LineAllowed, ShapeAllowed}
 use Rattle.rows.specs.Rows.{rowOf}
 use Rattle.rows.proofs.Rule.{signOf, sign-squared, row-backwards}
 use Rattle.measure.specs.Loss.{familyOf, familyAcross}

@@ -1,4 +1,4 @@
--- What is promised of packs written in reverse (W-213), in each of the three ways. The proof of each stands in proofs/Reversed.antt.
+-- What is promised of packs written in reverse (W-213), in each of the three ways. The proof of each stands in proofs/ReversedPromises.antt.
 use Prim.Native.Nat.{ℕ, _%_, _<_}
 use mathlib.Core.Path.{_≡_}
 use mathlib.Core.Bool.{false}

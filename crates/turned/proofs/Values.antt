@@ -31,13 +31,17 @@ module _ (τ : ℕ → ℕ) (cells : ℕ) (ps : List ℤ) where
   abbrev values : List ℤ
   values = inTurn (turnedValue τ ps) 0 cells
 
+  -- the word of a block
+  abbrev word : ℕ → ℤ
+  word i = wordAt (turnedValue τ ps i) 0
+
   long : length values ≡ cells
-  long = length-singles (λ i. wordAt ps (τ i)) cells 0
+  long = length-singles word cells 0
 
   pub turned-value : (i : ℕ) → i < cells → wordAt ps′ i ≡ wordAt ps (τ i)
   turned-value i h =
       List·getD-append values (drop cells ps) (pos 0) i (subst (λ (n : ℕ). i < n) (sym long) h)
-      ∙ single-at (λ i. wordAt ps (τ i)) cells 0 i h ∙ ap (λ (x : ℕ). wordAt ps (τ x)) (N.zero-add i)
+      ∙ single-at word cells 0 i h ∙ ap (λ (x : ℕ). wordAt ps (τ x)) (N.zero-add i)
 
   pub turned-multiplier : (l : ℕ) → wordAt ps′ (cells + l) ≡ wordAt ps (cells + l)
   turned-multiplier l =

@@ -38,7 +38,7 @@ use Rattle.claims.specs.Reversed.{Way, rowsAlone, columnsAlone, bothToge
 use Rattle.claims.specs.ReversedPromises.{ReversedReads, ReversedIs, CellsFromLast, CheckedInReverse, CheckedAlike, ToldInReverse, ReversedTwice, BothIsEach, ReversedExamples}
 use Rattle.claims.proofs.Accepted.{on-both}
 use Rattle.claims.proofs.TurnedCheck.{turned-verdict}
-use Rattle.claims.proofs.Ways.{cells-turned, down-carried, across-carried, both-from-last, line-from-last, rows-then-columns}
+use Rattle.claims.proofs.Ways.{cells-turned, down-carried, across-carried, both-from-last, line-from-last, line-stays, rows-then-columns}
 use Rattle.claims.proofs.Reversed.{words, laid, allowed, words-back, job-reads, about-back, allowed-too, job-twice, job-again, both-read, table-turned, proposal-again, proposal-twice}
 
 -- ---- packs
@@ -57,7 +57,7 @@ reversed-is = record {
 }
 
 pub cells-from-last : CellsFromLast
-cells-from-last = record { both = both-from-last; line = line-from-last }
+cells-from-last = record { both = both-from-last; line = line-from-last; stays = line-stays }
 
 pub checked-alike : CheckedAlike
 checked-alike way job proposal job′ proposal′ B B′ T W =

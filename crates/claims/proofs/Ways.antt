@@ -88,21 +88,27 @@ module _ (j : Job) (A : Allowed j) where
   both-from-last i h = grid-backwards (j .rows) (j .columns) i (cell-among i h) ∙ ap (λ (n : ℕ). fromLast n i) (A .cells-are)
 
   -- the one column of a job that is no grid stays where it is either way
-  pub line-from-last : j .grid ≡ false → (i : ℕ) → i < j .cells → cellFrom rowsAlone j i ≡ fromLast (j .cells) i
-  line-from-last e i h =
-      by-rows (j .rows) (j .columns) (λ i. cellFrom rowsAlone j i ≡ cellFrom bothTogether j i)
-      (λ r c p q.
-      map-at (j .columns) (fromLast (j .rows)) (λ c. c) r c q
-      ∙ ap (λ (x : ℕ). fromLast (j .rows) r * j .columns + x) (alone c q)
-      ∙ sym (map-at (j .columns) (fromLast (j .rows)) (fromLast (j .columns)) r c q))
-      i (cell-among i h)
-      ∙ both-from-last i h
-    where
-      S : LineAllowed j
-      S = subst (ShapeAllowed j) e (A .shape)
+  module _ (e : j .grid ≡ false) where
+    S : LineAllowed j
+    S = subst (ShapeAllowed j) e (A .shape)
 
-      alone : (c : ℕ) → c < j .columns → c ≡ fromLast (j .columns) c
-      alone c q = omega (arith, S .columns-one)
+    alone : (c : ℕ) → c < j .columns → c ≡ fromLast (j .columns) c
+    alone c q = omega (arith, S .columns-one)
+
+    pub line-from-last : (i : ℕ) → i < j .cells → cellFrom rowsAlone j i ≡ fromLast (j .cells) i
+    line-from-last i h =
+        by-rows (j .rows) (j .columns) (λ i. cellFrom rowsAlone j i ≡ cellFrom bothTogether j i)
+        (λ r c p q.
+        map-at (j .columns) (fromLast (j .rows)) (λ c. c) r c q
+        ∙ ap (λ (x : ℕ). fromLast (j .rows) r * j .columns + x) (alone c q)
+        ∙ sym (map-at (j .columns) (fromLast (j .rows)) (fromLast (j .columns)) r c q))
+        i (cell-among i h)
+        ∙ both-from-last i h
+
+    pub line-stays : (i : ℕ) → i < j .cells → cellFrom columnsAlone j i ≡ i
+    line-stays i h =
+        by-rows (j .rows) (j .columns) (λ i. cellFrom columnsAlone j i ≡ i)
+        (λ r c p q. map-at (j .columns) (λ r. r) (fromLast (j .columns)) r c q ∙ ap (λ (x : ℕ). r * j .columns + x) (sym (alone c q))) i (cell-among i h)
 
   -- the rows, and then the columns
   pub rows-then-columns : (i : ℕ) → i < j .cells → cellFrom rowsAlone j (cellFrom columnsAlone j i) ≡ cellFrom bothTogether j i

@@ -35,10 +35,11 @@ pub record ReversedIs : Type 0 where
   pub tables : (way : Way) (job proposal : List ℕ) → BothRead job proposal
       → TableTurned (cellFrom way (jobIn job)) job proposal (reversedJob way job) (reversedProposal way job proposal)
 
--- Which cell that is: of both together the cells from the last to the first, and the same of the rows alone of a job that is no grid.
+-- Which cell that is: of both together the cells from the last to the first. Of a job that is no grid the rows alone do the same, and the columns alone nothing.
 pub record CellsFromLast : Type 0 where
   pub both : (j : Job) → Allowed j → (i : ℕ) → i < j .cells → cellFrom bothTogether j i ≡ fromLast (j .cells) i
   pub line : (j : Job) → Allowed j → j .grid ≡ false → (i : ℕ) → i < j .cells → cellFrom rowsAlone j i ≡ fromLast (j .cells) i
+  pub stays : (j : Job) → Allowed j → j .grid ≡ false → (i : ℕ) → i < j .cells → cellFrom columnsAlone j i ≡ i
 
 -- "Show that a job and proposal that can be read, written in reverse with boxes, weights and link cells, get the same number at the check, with the same F
 -- and G; places may differ."

@@ -93,22 +93,15 @@ static void print_largest(const struct table *t, const int64_t *reach)
         print_rate(t, reach, largest_of(t, reach, 1), "the largest of those with a weight above 0", "");
 }
 
-static bool accepted(const struct table *t, int64_t *gap)
-{
-    uint64_t answer[BENCH_ANSWER_WORDS];
-    uint64_t said = bench_check(t->job, t->job_bytes, t->proposal, t->proposal_bytes, answer, BENCH_ANSWER_WORDS);
-    *gap = (int64_t)answer[3];
-    return BENCH_NUMBER(said) == BENCH_DONE;
-}
-
 int main(void)
 {
     static struct table table;
     int64_t reach[BENCH_MOST_CELLS], gap;
-    if (!read_table(&table) || !accepted(&table, &gap)) {
+    if (!read_table(&table) || table.answer[0] != BENCH_DONE) {
         fprintf(stderr, "rates: there is no accepted table here\n");
         return 1;
     }
+    gap = (int64_t)table.answer[3];
     for (int64_t cell = 0; cell < table.cells; cell++)
         reach[cell] = reach_of(&table, cell, gap);
     print_numbers(&table, table.number, "values", "");

@@ -18,6 +18,7 @@ const int64_t *cell_of(const struct table *t, int64_t cell)
 
 /* ---- the input */
 
+/* False where no number in its shortest form stands there. */
 static bool take_number(const uint8_t *bytes, size_t count, size_t *at, int64_t *number)
 {
     *number = 0;
@@ -25,9 +26,18 @@ static bool take_number(const uint8_t *bytes, size_t count, size_t *at, int64_t 
         uint8_t byte = bytes[(*at)++];
         *number |= (int64_t)(byte % 128) << bits;
         if (byte < 128)
-            return true;
+            return byte > 0 || bits == 0;
     }
     return false;
+}
+
+size_t put_number(uint8_t *out, int64_t number)
+{
+    size_t bytes = 0;
+    for (; number > 127; number /= 128)
+        out[bytes++] = (uint8_t)(number % 128 + 128);
+    out[bytes++] = (uint8_t)number;
+    return bytes;
 }
 
 /* The two packs: a length, so many bytes of the job, and the rest. */
@@ -35,7 +45,9 @@ static bool find_packs(struct table *t, size_t count)
 {
     int64_t length;
     size_t at = 0;
-    if (!take_number(t->input, count, &at, &length) || (uint64_t)length > count - at)
+    t->answer[0] = BENCH_UNREADABLE;
+    t->answer[1] = count > MOST_INPUT ? MOST_INPUT : 0;
+    if (count > MOST_INPUT || !take_number(t->input, count, &at, &length) || (uint64_t)length > count - at)
         return false;
     t->job = t->input + at;
     t->job_bytes = (size_t)length;
@@ -68,12 +80,13 @@ bool read_table(struct table *t)
     size_t at = 0;
     if (!find_packs(t, fread(t->input, 1, sizeof t->input, stdin)))
         return false;
-    if (BENCH_NUMBER(bench_read(t->job, t->job_bytes, t->words, BENCH_MOST_JOB_WORDS, answer, BENCH_ANSWER_WORDS)) != BENCH_DONE)
+    bench_check(t->job, t->job_bytes, t->proposal, t->proposal_bytes, t->answer, BENCH_ANSWER_WORDS);
+    if (t->answer[0] >= BENCH_UNREADABLE && t->answer[0] <= BENCH_BAD_PROPOSAL)
         return false;
+    t->job_words = BENCH_PLACE(bench_read(t->job, t->job_bytes, t->words, BENCH_MOST_JOB_WORDS, answer, BENCH_ANSWER_WORDS));
     find_fields(t);
     for (int64_t place = 0; place < places(t); place++)
-        if (!take_number(t->proposal, t->proposal_bytes, &at, &t->number[place]))
-            return false;
+        take_number(t->proposal, t->proposal_bytes, &at, &t->number[place]);
     return true;
 }
 

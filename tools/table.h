@@ -11,11 +11,13 @@ enum { MOST_INPUT = 8192, MOST_PLACES = BENCH_MOST_CELLS + BENCH_MOST_LINKS };
 /* The words of a cell in a job. */
 enum { WEIGHT = 1, FLOOR = 2, CEILING = 3, CELL_WORDS = 4 };
 
-/* A job and its proposal, whose numbers, values and then multipliers, stand at the places of their terms. A line has 0 columns. */
+/* A job and its proposal, whose numbers, values and then multipliers, stand at the places of their terms. A line has 0 columns. The answer is the
+ * check's, or for an input without two packs the number and place that the checking program gives; the input has room for a byte too many. */
 struct table {
-    uint8_t input[MOST_INPUT];
+    uint8_t input[MOST_INPUT + 1];
     const uint8_t *job, *proposal;
-    size_t job_bytes, proposal_bytes;
+    size_t job_bytes, proposal_bytes, job_words;
+    uint64_t answer[BENCH_ANSWER_WORDS];
     int64_t words[BENCH_MOST_JOB_WORDS];
     int64_t cells, links, columns, tolerance;
     const int64_t *cell;
@@ -23,8 +25,11 @@ struct table {
     int64_t number[MOST_PLACES];
 };
 
-/* Reads standard input. False where no job can be read, or the proposal ends early; what else is wrong with a proposal the library tells. */
+/* Reads standard input and asks the check. False where it cannot be read, and then the answer alone is filled in. */
 bool read_table(struct table *t);
+
+/* Writes a number in its shortest form, which has 9 bytes at most, and returns its bytes. */
+size_t put_number(uint8_t *out, int64_t number);
 
 int64_t places(const struct table *t);
 const int64_t *cell_of(const struct table *t, int64_t cell);

@@ -47,15 +47,6 @@ static bool ask(const struct table *t, const uint8_t *pack, size_t bytes, int64_
     return true;
 }
 
-static size_t put_number(uint8_t *out, int64_t number)
-{
-    size_t bytes = 0;
-    for (; number > 127; number /= 128)
-        out[bytes++] = (uint8_t)(number % 128 + 128);
-    out[bytes++] = (uint8_t)number;
-    return bytes;
-}
-
 /* Whether the gap is below `most` once one number alone is moved; if so, it becomes `most`. */
 static bool smaller_with(struct table *t, int64_t place, int64_t step, wide *most)
 {

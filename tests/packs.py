@@ -11,6 +11,7 @@ STDIN = ROOT / 'crates' / 'cases' / 'stdin'
 STDOUT = ROOT / 'crates' / 'cases' / 'stdout'
 HOUSE, CHECK = 0, 1
 GRID = 5
+MOST_INPUT = 8192
 
 # ---- jobs, and how they are written
 
@@ -154,6 +155,14 @@ def proposal_of(pack, job):
     except Refused as refused:
         raise Refused(6, refused.args[1])
     return values, multipliers
+
+def packs_of(given):
+    """The two packs of an input of the checking program."""
+    read = Reader(given)
+    length = read.upto(len(given))
+    if length > len(given) - read.at or len(given) > MOST_INPUT:
+        raise Refused(1, 0)
+    return given[read.at:read.at + length], given[read.at + length:]
 
 # ---- cases
 

@@ -10,20 +10,11 @@ from collections import Counter
 from pathlib import Path
 
 sys.path.insert(0, str(Path(__file__).resolve().parents[1]))
-from packs import Reader, Refused, job_of, proposal_of
+from packs import Refused, job_of, packs_of, proposal_of
 from verdict import least_off, verdict
 
-MOST_INPUT = 8192
 PROMISE = 'no table that meets the job with a loss of at most F differs from this one by more in any rate'
 KINDS = ['largest by its weight', 'largest by its box', 'largest by its box alone', 'largest more than once', 'rounded up', 'weight 0 and G 0']
-
-def packs_of(given):
-    """The two packs of an input."""
-    read = Reader(given)
-    length = read.upto(len(given))
-    if length > len(given) - read.at or len(given) > MOST_INPUT:
-        raise Refused(1, 0)
-    return given[read.at:read.at + length], given[read.at + length:]
 
 class Rate:
     """A rate of a table with gap G: how far off it can be at most, and by what. The weight, where it is positive, lets it be off by the least whole

@@ -27,7 +27,11 @@ use Rattle.turned.proofs.Again.{words-again}
 use Rattle.turned.proofs.Values.{values-again}
 use Rattle.measure.specs.declared.check.Verdict.{Verdict}
 use Rattle.measure.specs.declared.check.Verdict.the-variants.{Accepted, Refused}
-use Rattle.measure.specs.Check.{checkOf}
+use Rattle.rows.specs.Rows.{rowOf}
+use Rattle.tally.specs.Largest.{largestOf}
+use Rattle.measure.specs.Loss.{lossOf}
+use Rattle.measure.specs.Gap.{linkSum, residualOf, gapOf}
+use Rattle.measure.specs.Check.{lowestFrom, verdictOf, checkOf}
 use Rattle.checked.specs.declared.Answer.{Answer}
 use Rattle.checked.specs.Answers.{answerOf}
 use Rattle.bench.specs.Answers.{codeOf, answerWords, hasFour, noAnswer, returnedFor, writtenFor}
@@ -35,7 +39,7 @@ use Rattle.bench.specs.Calls.{outcomeOf}
 use Rattle.bench.proofs.Small.{Small, check-small}
 use Rattle.claims.specs.Read.{jobIn, proposalIn, valuesIn, multipliersIn, Reads}
 use Rattle.claims.specs.Reversed.{Way, rowsAlone, columnsAlone, bothTogether, cellFrom, reversedJob, reversedProposal, unplaced}
-use Rattle.claims.specs.ReversedPromises.{ReversedReads, ReversedIs, CellsFromLast, CheckedInReverse, CheckedAlike, ToldInReverse, ReversedTwice, BothIsEach, ReversedExamples}
+use Rattle.claims.specs.ReversedPromises.{ReversedReads, ReversedIs, CellsFromLast, CheckedInReverse, CheckedAlike, PlacesDiffer, ToldInReverse, ReversedTwice, BothIsEach, ReversedExamples}
 use Rattle.claims.proofs.Accepted.{on-both}
 use Rattle.claims.proofs.TurnedCheck.{turned-verdict}
 use Rattle.claims.proofs.Ways.{cells-turned, down-carried, across-carried, both-from-last, line-from-last, line-stays, rows-then-columns}
@@ -163,3 +167,7 @@ told-in-reverse = record {
 pub reversed-examples : ReversedExamples
 unfolding sum numberIn bytesIn stepOf runFrom writeFrom startOf headWords rowsOf columnsOf orderOf acrossOf secondOf turnedWords
 reversed-examples = record { job = refl; proposal = refl; rows = refl; columns = refl; both = refl }
+
+pub places-differ : PlacesDiffer
+unfolding sum numberIn bytesIn stepOf runFrom writeFrom startOf headWords rowsOf columnsOf orderOf acrossOf secondOf turnedWords rowOf lossOf linkSum residualOf gapOf largestOf lowestFrom verdictOf
+places-differ = record { as-it-is = refl; in-reverse = refl }

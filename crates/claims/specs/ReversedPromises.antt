@@ -12,10 +12,11 @@ use Rattle.jobs.specs.Job.{Job}
 use Rattle.jobs.specs.Allowed.{Allowed}
 use Rattle.jobs.specs.Packs.{readJob}
 use Rattle.turned.specs.About.{TurnedAbout}
+use Rattle.measure.specs.declared.check.Verdict.the-variants.{Refused}
 use Rattle.measure.specs.Check.{checkOf}
 use Rattle.bench.specs.Calls.{CheckSays, ReadSays}
 use Rattle.claims.specs.Read.{jobIn, valuesIn, multipliersIn, Reads, BothRead}
-use Rattle.claims.specs.Worked.{linked, selectJob}
+use Rattle.claims.specs.Worked.{plain, linked, selectJob}
 use Rattle.claims.specs.Reversed.{Way, rowsAlone, columnsAlone, bothTogether, cellFrom, reversedJob, reversedProposal, unplaced}
 
 -- What can be read can be read in reverse, a job pack into as many words and with it a proposal pack; and the job is allowed, its positive weights (4) too.
@@ -54,6 +55,12 @@ CheckedAlike =
     (way : Way) (job proposal job′ proposal′ : List ℕ) → BothRead job proposal → BothRead job′ proposal′
     → TurnedAbout (cellFrom way (jobIn job)) (jobIn job) (jobIn job′) → TableTurned (cellFrom way (jobIn job)) job proposal job′ proposal′
     → unplaced (checkOf job′ proposal′) ≡ unplaced (checkOf job proposal)
+
+-- Places do differ: document 01's v 2 3 3 with T 8 is refused with 9 at cell 1, and in reverse at cell 0.
+pub record PlacesDiffer : Type 0 where
+  pub as-it-is : checkOf (plain (8 ∷ []) 0 7 0) (2 ∷ 3 ∷ 3 ∷ []) ≡ Refused 9 1
+  pub in-reverse :
+      checkOf (reversedJob bothTogether (plain (8 ∷ []) 0 7 0)) (reversedProposal bothTogether (plain (8 ∷ []) 0 7 0) (2 ∷ 3 ∷ 3 ∷ [])) ≡ Refused 9 0
 
 -- So a C caller that lends the same slices gets from a check the same number and, after number and place, the same words, F and G; and from reading a job's words
 -- the same answer, place and all.

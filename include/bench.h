@@ -1,9 +1,9 @@
 /* bench.h: the bench, for the portal and any other C or C++ program.
  *
  * The bench reads a job (one society's table to be graduated: a line of ages, or a grid for a select table), checks a proposed table with its
- * multipliers, makes a proposal of its own, and keeps accepted tables on a shelf that the caller lends. Document 01 has the rules, with request
- * W-205 for grids, W-203 for a fetch that checks, W-209 for counts of slots, W-202 for the terms of a gap, W-208 for how far off a rate can be and W-213
- * for jobs written in reverse; this page has what a caller needs.
+ * multipliers, makes a proposal of its own, and keeps accepted tables on a shelf that the caller lends. It makes jobs of comma lists, and comma lists
+ * of tables. Document 01 has the rules, with request W-205 for grids, W-203 for a fetch that checks, W-209 for counts of slots, W-202 for the terms of
+ * a gap, W-208 for how far off a rate can be, W-213 for jobs written in reverse and W-201 for comma lists; this page has what a caller needs.
  *
  * WHAT EVERY CALL DOES
  *
@@ -25,6 +25,10 @@
  *     0    done                                                    bytes, values, numbers or words written to an output; else 0
  *     1    job pack: number unreadable, or spare bytes             offset of its first byte, or of the first spare byte
  *     2    job pack: number not allowed                            offset of its first byte
+ *          import: a number given that the job pack does not       offset that its first byte would have in the pack
+ *          allow, or not 2 to 120 lines of data
+ *          export: not 1 to 120 rates, or a rate or an age         0
+ *          above 10^9; rates: no line of data                      0
  *     3    floor above ceiling                                     cell
  *     4    fewer positive weights than the order used; of a grid,  0
  *          fewer rows than the order down that have as many as
@@ -43,14 +47,19 @@
  *          or links than the job
  *     13   answer slice not 4 words, shelf not 9,192,              4, 9,192, or
  *          or output too short                                     the length needed, in the output's own elements
+ *     16   list: line malformed, out of range, beyond the 120      line; the header is line 1
+ *     17   list: age not the one before it plus 1                  line
+ *     18   import: deaths above exposure                           line
+ *     19   import: divisor 0                                       0
  *     20   house proposal: a grid of more than 12 columns          0
  *     22   counts of slots not allowed: at clear those handed in,  lowest society whose count is not 1 to 16; if each is,
  *          at keep, fetch and forget those found on the shelf      8 for a total above 32
  *
  * The first that applies is given, in this order: answer slice, shelf length, 22; then the job pack from its first byte to its last (1 and 2
  * for each number, 3 after each ceiling, 4 after the last cell, 5 after each term, spare bytes last); then 6, 7, 8, 9, or for terms 6, 7, 8, or for
- * fetch 12, 6, 7, 8, 9, or for propose 20, 10; for forget, which takes no pack, 11, then 12; and the output's length last. A wrong answer slice
- * is not written to: only the returned number tells it.
+ * fetch 12, 6, 7, 8, 9, or for propose 20, 10; for forget, which takes no pack, 11, then 12; for import 19, then line by line 16, 17, 18, then 2, 3, 4 of
+ * the pack that it would write; for export 2; for rates line by line 16, 17, then 2; and the output's length last. A wrong answer slice is not written
+ * to: only the returned number tells it.
  *
  * PACKS
  *
@@ -75,6 +84,20 @@
  * A grid's cells run along a row first: the cell of row r and column c is r times the columns plus c. Its loss adds k times the squared
  * differences of the order down, down the columns, and the second constant times those of the order across, along the rows; no difference
  * runs over a row's end. Links, boxes and the shelf know no rows: a grid is n cells there.
+ *
+ * COMMA LISTS
+ *
+ * Lists are lines of bytes after RFC 4180, without quotes. Lines are parted by CR LF (bytes 13 and 10) and by nothing else; the last one may lack it. A
+ * number is 0..10^9 in decimal digits, without leading zeros, signs or blanks. Ages rise by one from any first age. At most 120 lines follow the header.
+ *
+ *     claims list   age,exposure,deaths      in: bench_import makes a job pack of it
+ *                   40,1000,7                crude rate 7,000, weight 10 with divisor 100
+ *     table         age,rate                 out: bench_export; and back in: bench_rates
+ *                   40,6900
+ *
+ * A cell's crude rate u is deaths times 1,000,000 over exposure, rounded, halves up; its weight w is exposure over the divisor, rounded down, and 1,000
+ * where that is less; exposure 0 gives 0 for both. Deaths may not be above exposure (18), so exposure 0 asks for deaths 0. docs/LISTS.md says it for
+ * societies.
  *
  * HOW FAR OFF A RATE CAN BE
  *
@@ -170,10 +193,10 @@ extern "C" {
  *   4  counts of slots: the shelf begins with a row of eight counts, so BENCH_SHELF_WORDS is 9,192; bench_clear takes the counts; 22 for counts not
  *      allowed, at every call on the shelf
  *   5  what holds a table back: the place of 9, which was always 0, is that of the largest term of the gap; bench_terms, a ninth call, tells all terms
+ *   6  comma lists: bench_import, bench_export and bench_rates, three calls more, with 16 to 19 for what is wrong with a list
  *
- * Moving from version 4: the shelf, acceptance, F and G are as they were, so nothing has to be kept again. A caller that took the place of 9 for 0 finds a
- * cell there, or n plus a link. */
-#define BENCH_VERSION 5
+ * Moving from version 5: every call that there was answers as it did, so nothing has to be changed or kept again. */
+#define BENCH_VERSION 6
 
 /* No call needs more stack than this, and none on a job that is no grid more than the second. */
 #define BENCH_STACK_BYTES 65536
@@ -192,6 +215,9 @@ extern "C" {
 #define BENCH_MOST_HOUSE_BYTES 520     /* a house proposal, whose multipliers are all 0: the output of bench_propose */
 #define BENCH_MOST_VALUES 120          /* a table's values: the output of bench_fetch */
 #define BENCH_MOST_TERM_WORDS 840      /* the terms of a gap, 3 words for each cell and link: the output of bench_terms */
+#define BENCH_MOST_LIST_BYTES 3982     /* a claims list */
+#define BENCH_MOST_IMPORT_BYTES 1339   /* a job pack made of one: the output of bench_import */
+#define BENCH_MOST_EXPORT_BYTES 2651   /* a table as a list: the output of bench_export */
 
 /* The numbers of the table above. */
 enum bench_number {
@@ -209,6 +235,10 @@ enum bench_number {
     BENCH_NO_SUCH_SOCIETY = 11,
     BENCH_NOTHING_KEPT = 12,
     BENCH_WRONG_LENGTH = 13,
+    BENCH_BAD_LINE = 16,
+    BENCH_AGE_NOT_NEXT = 17,
+    BENCH_DEATHS_ABOVE_EXPOSURE = 18,
+    BENCH_NO_DIVISOR = 19,
     BENCH_GRID_TOO_WIDE = 20,
     BENCH_BAD_COUNTS = 22
 };
@@ -285,6 +315,23 @@ uint64_t bench_read(const uint8_t *job, size_t job_bytes, int64_t *words, size_t
  * It refuses with the number and place that reading the pack would give: a word out of range is 2, a list that ends early or runs on is 1,
  * at the offset where the byte would stand. Numbers: 0 to 5, 13. */
 uint64_t bench_write(const int64_t *words, size_t word_count, uint8_t *out, size_t out_bytes,
+                     uint64_t *answer, size_t answer_words);
+
+/* Makes a job pack without links of a claims list and writes it to `out`. The divisor is that of the weights; the other numbers stand in the pack as they
+ * are given, the order 0..4 (0 stays 0, the house order), with one box from `floor` to `ceiling` for all cells; one that the pack does not allow is 2,
+ * however large, and never cut. Done: the place is the pack's bytes, and the pack can be read: it is that job. Numbers: 0, 2, 3, 4, 13, 16 to 19. */
+uint64_t bench_import(const uint8_t *text, size_t text_bytes, uint64_t divisor, uint64_t society, uint64_t job, uint64_t order,
+                      uint64_t constant, uint64_t tolerance, uint64_t floor, uint64_t ceiling,
+                      uint8_t *out, size_t out_bytes, uint64_t *answer, size_t answer_words);
+
+/* Writes a table to `out` as a list: the header, then a line for each rate, ages rising from `first_age`; every line ends in CR LF, the last too. Done: the
+ * place is the text's bytes, and bench_rates gives the rates back. It asks no check: fetch gives values that were checked. Numbers: 0, 2, 13. */
+uint64_t bench_export(const uint32_t *rates, size_t rate_count, uint64_t first_age,
+                      uint8_t *out, size_t out_bytes, uint64_t *answer, size_t answer_words);
+
+/* Reads such a list back: its rates go to `out`. Done: the place is their count. Exported again from its first age, it is the same text, with CR LF at
+ * its end. Numbers: 0, 2, 13, 16, 17. */
+uint64_t bench_rates(const uint8_t *text, size_t text_bytes, uint32_t *out, size_t out_words,
                      uint64_t *answer, size_t answer_words);
 
 #ifdef __cplusplus

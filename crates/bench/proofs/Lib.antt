@@ -3,4 +3,5 @@ pub mod Four
 pub mod Endings
 pub mod Small
 pub mod Outcomes
+pub mod Listed
 pub mod Shelves

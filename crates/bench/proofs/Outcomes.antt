@@ -35,7 +35,7 @@ use Rattle.bench.proofs.Small.{Small, check-small}
 
 -- ---- room
 
-in-room-small : (room : ℕ) (bytes : List ℕ) (o : Outcome) → Small (outcomeOf o) → Small (outcomeOf (inRoom room bytes o .outcome))
+pub in-room-small : (room : ℕ) (bytes : List ℕ) (o : Outcome) → Small (outcomeOf o) → Small (outcomeOf (inRoom room bytes o .outcome))
 in-room-small room bytes (Done n) s = go (ltb room n)
   where
     go : (t : Bool) → Small (outcomeOf ((if t then refused 13 n else record { bytes = bytes; outcome = Done n }) .outcome))

@@ -1,4 +1,4 @@
--- The nine calls over C: each call's answer, what it leaves in the slice that it writes to, and its claim, which its contract cites.
+-- The twelve calls over C: each call's answer, what it leaves in the slice that it writes to, and its claim, which its contract cites.
 use Prim.Native.Nat.{ℕ}
 use mathlib.Core.List.{List, []}
 use lib.IntN.{ℤ}
@@ -11,6 +11,9 @@ use Rattle.jobs.specs.Packs.{readJobInto, writeJob}
 use Rattle.measure.specs.Check.{checkOf}
 use Rattle.terms.specs.Listing.{termsOf}
 use Rattle.house.specs.Proposal.{proposeOf}
+use Rattle.lists.specs.declared.imports.Given.{Given}
+use Rattle.lists.specs.Imports.{importOf}
+use Rattle.lists.specs.Exports.{exportOf, ratesOf}
 use Rattle.checked.specs.declared.Answer.{Answer}
 use Rattle.checked.specs.Answers.{refusal, overwritten, answerOf}
 use Rattle.shelf.specs.Calls.{Call, own, fetch, after, said}
@@ -47,6 +50,31 @@ ReadSays job words answer =
 
 abbrev pub WriteSays : (words : List ℤ) (out answer : List ℕ) → (returned : ℕ) (answered left : List ℕ) → Type 0
 WriteSays words out answer = WriterSays (roomed (length out) (writeJob words)) out answer
+
+-- ---- comma lists
+
+-- What the caller of an import gives beside the list.
+abbrev pub givenOf : (divisor society job order constant tolerance floor ceiling : ℕ) → Given
+givenOf divisor society job order constant tolerance floor ceiling =
+    record {
+      divisor = divisor;
+      society = society;
+      job = job;
+      order = order;
+      constant = constant;
+      tolerance = tolerance;
+      floor = floor;
+      ceiling = ceiling;
+    }
+
+abbrev pub ImportSays : Given → (text out answer : List ℕ) → (returned : ℕ) (answered left : List ℕ) → Type 0
+ImportSays g text out answer = WriterSays (importOf g (length out) text) out answer
+
+abbrev pub ExportSays : (rates : List ℕ) (first : ℕ) (out answer : List ℕ) → (returned : ℕ) (answered left : List ℕ) → Type 0
+ExportSays rates first out answer = WriterSays (exportOf (length out) first rates) out answer
+
+abbrev pub RatesSays : (text out answer : List ℕ) → (returned : ℕ) (answered left : List ℕ) → Type 0
+RatesSays text out answer = Says (outcomeOf (ratesOf (length out) text .outcome)) answer out (sets out 0 (ratesOf (length out) text .values))
 
 -- ---- the shelf
 

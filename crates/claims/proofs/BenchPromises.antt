@@ -1,4 +1,4 @@
--- The promises of the nine calls over C, each a law whose type is its statement in specs/BenchPromises.antt: one general law about `Says`, and an
+-- The promises of the twelve calls over C, each a law whose type is its statement in specs/BenchPromises.antt: one general law about `Says`, and an
 -- instance a call.
 use Prim.Native.Nat.{ℕ, _/_, _%_}
 use mathlib.Core.Path.{_≡_, refl, sym, ap, subst, _∙_}
@@ -12,6 +12,8 @@ use Rattle.jobs.specs.Packs.{readJobInto, writeJob}
 use Rattle.measure.specs.Check.{checkOf}
 use Rattle.terms.specs.Listing.{termsOf}
 use Rattle.house.specs.Proposal.{proposeOf}
+use Rattle.lists.specs.Imports.{importOf}
+use Rattle.lists.specs.Exports.{exportOf, ratesOf}
 use Rattle.checked.specs.declared.Answer.{Answer}
 use Rattle.checked.specs.Answers.{answerOf}
 use Rattle.checked.specs.Checked.{checkedOf}
@@ -21,6 +23,7 @@ use Rattle.shelf.specs.Calls.{own, keep, fetch, forget, clear, after, said}
 use Rattle.bench.specs.Answers.{codeOf, answerWords, hasFour, returnedFor, writtenFor, Says}
 use Rattle.bench.proofs.Small.{Small, check-small}
 use Rattle.bench.proofs.Outcomes.{propose-small, read-small, terms-small, write-small}
+use Rattle.bench.proofs.Listed.{import-small, export-small, rates-small}
 use Rattle.bench.proofs.Shelves.{said-small}
 use Rattle.claims.specs.Seen.{clears, withoutOthers, ownSeen}
 use Rattle.claims.specs.BenchPromises.{Among, Untouched, Determined, Numbered, RefusalsKept, RestsKept, AcceptedTold, KeptAsChecked, TermsHanded, EightListsSeen, NoNeighbourSeen, OwnCallsSeen}
@@ -29,6 +32,7 @@ use Rattle.claims.proofs.FetchTold.{fetch-told}
 use Rattle.claims.proofs.Unwritten.{Kept, verdict-kept, write-kept, read-kept, propose-kept, shelf-kept, fetch-kept}
 use Rattle.claims.proofs.CallNumbers.{check-number, propose-number, read-number, write-number, keep-number, fetch-number, forget-number, clear-number}
 use Rattle.claims.proofs.Seen.{run-seen, lists-seen, alone-seen, decided-seen}
+use Rattle.claims.proofs.ListCalls.{import-number, export-number, rates-number, import-kept, export-kept, rates-kept, import-within, export-within, rates-within}
 use Rattle.claims.proofs.HandedTerms.{terms-number, terms-kept, terms-within, terms-told}
 use Rattle.claims.proofs.Beyond.{beyond-made, beyond-values, write-within, read-within, propose-within, fetch-within}
 
@@ -45,6 +49,9 @@ determined = record {
   propose = λ job out answer r s a b x y f g. one f g;
   read = λ job words answer r s a b x y f g. one f g;
   write = λ words out answer r s a b x y f g. one f g;
+  from-list = λ g text out answer r s a b x y f h. one f h;
+  to-list = λ rates first out answer r s a b x y f g. one f g;
+  rates = λ text out answer r s a b x y f g. one f g;
   on-shelf = λ call shelf answer r s a b x y f g. one f g;
   fetch = λ shelf job out answer r s a b x y f g. one f g;
 }
@@ -118,6 +125,12 @@ numbered = record {
       numbered-by (propose-small (length out) job) says (10 ∷ 13 ∷ 20 ∷ []) 5 (inr (inl refl)) (propose-number (length out) job);
   read = λ job words answer r a x says. numbered-by (read-small (length words) job) says (13 ∷ []) 5 (inl refl) (read-number (length words) job);
   write = λ words out answer r a x says. numbered-by (write-small (length out) words) says (13 ∷ []) 5 (inl refl) (write-number (length out) words);
+  from-list = λ g text out answer r a x says.
+      numbered-by (import-small g (length out) text) says (2 ∷ 3 ∷ 4 ∷ 13 ∷ 16 ∷ 17 ∷ 18 ∷ 19 ∷ []) 0 (inr (inr (inr (inl refl)))) (import-number g (length out) text);
+  to-list = λ rates first out answer r a x says.
+      numbered-by (export-small (length out) first rates) says (2 ∷ 13 ∷ []) 0 (inr (inl refl)) (export-number (length out) first rates);
+  rates = λ text out answer r a x says.
+      numbered-by (rates-small (length out) text) says (2 ∷ 13 ∷ 16 ∷ 17 ∷ []) 0 (inr (inl refl)) (rates-number (length out) text);
   keep = λ job proposal shelf answer r a x says.
       numbered-by (said-small shelf (own (keep job proposal))) says (13 ∷ 22 ∷ []) 9 (inl refl) (keep-number job proposal shelf);
   fetch = λ shelf job out answer r a x says.
@@ -136,6 +149,9 @@ refusals-kept = record {
   propose = λ job out answer r a x says n. kept-by (propose-small (length out) job) says (propose-kept (length out) job out) n;
   read = λ job words answer r a x says n. kept-by (read-small (length words) job) says (read-kept (length words) job words) n;
   write = λ words out answer r a x says n. kept-by (write-small (length out) words) says (write-kept (length out) (writeJob words) out) n;
+  from-list = λ g text out answer r a x says n. kept-by (import-small g (length out) text) says (import-kept g (length out) text out) n;
+  to-list = λ rates first out answer r a x says n. kept-by (export-small (length out) first rates) says (export-kept (length out) first rates out) n;
+  rates = λ text out answer r a x says n. kept-by (rates-small (length out) text) says (rates-kept (length out) text out) n;
   on-shelf = λ call shelf answer r a x says n. kept-by (said-small shelf call) says (shelf-kept call shelf) n;
   fetch = λ shelf job out answer r a x says n.
       kept-by (said-small shelf (own (fetch job (length out)))) says (fetch-kept (own (fetch job (length out))) shelf out) n;
@@ -155,6 +171,15 @@ rests-kept = record {
   write = λ words out answer r a x says z.
       let made = roomed (length out) (writeJob words) in
       rest-by (write-small (length out) words) says (λ m e. beyond-made (made .bytes) out m (omega (arith, e, write-within (length out) words))) z;
+  from-list = λ g text out answer r a x says z.
+      let made = importOf g (length out) text in
+      rest-by (import-small g (length out) text) says (λ m e. beyond-made (made .bytes) out m (omega (arith, e, import-within g (length out) text))) z;
+  to-list = λ rates first out answer r a x says z.
+      let made = exportOf (length out) first rates in
+      rest-by (export-small (length out) first rates) says (λ m e. beyond-made (made .bytes) out m (omega (arith, e, export-within (length out) first rates))) z;
+  rates = λ text out answer r a x says z.
+      let made = ratesOf (length out) text in
+      rest-by (rates-small (length out) text) says (λ m e. beyond-made (made .values) out m (omega (arith, e, rates-within (length out) text))) z;
   fetch = λ shelf job out answer r a x says z.
       let call = own (fetch job (length out)) in
       rest-by (said-small shelf call) says
@@ -169,6 +194,15 @@ accepted-told = record {
   keep = λ job proposal shelf answer r a x says z.
       let t = told-by (said-small shelf (own (keep job proposal))) says z in
       kept-told job proposal shelf a (t .0) (t .1);
+  from-list = λ g text out answer r a x says z.
+      let made = importOf g (length out) text in
+      rest-by (import-small g (length out) text) says (λ m e. beyond-made (made .bytes) out m (omega (arith, e, import-within g (length out) text))) z;
+  to-list = λ rates first out answer r a x says z.
+      let made = exportOf (length out) first rates in
+      rest-by (export-small (length out) first rates) says (λ m e. beyond-made (made .bytes) out m (omega (arith, e, export-within (length out) first rates))) z;
+  rates = λ text out answer r a x says z.
+      let made = ratesOf (length out) text in
+      rest-by (rates-small (length out) text) says (λ m e. beyond-made (made .values) out m (omega (arith, e, rates-within (length out) text))) z;
   fetch = λ shelf job out answer r a x says z.
       let t = told-by (said-small shelf (own (fetch job (length out)))) says z in
       fetch-told shelf job out a x (t .0) (t .1) (t .2);

@@ -64,7 +64,7 @@ beyond-values values out m h =
 abbrev pub Within : {A : Type 0} → Outcome → List A → Type 0
 Within o made = length made ≤ outcomeOf o .place
 
-room-within : (room : ℕ) (bytes : List ℕ) (o : Outcome) → ((n : ℕ) → o ≡ Done n → length bytes ≤ n) → Within (inRoom room bytes o .outcome) (inRoom room bytes o .bytes)
+pub room-within : (room : ℕ) (bytes : List ℕ) (o : Outcome) → ((n : ℕ) → o ≡ Done n → length bytes ≤ n) → Within (inRoom room bytes o .outcome) (inRoom room bytes o .bytes)
 room-within room bytes (Refused number place) h = omega arith
 room-within room bytes (Done n) h = go (ltb room n)
   where

@@ -59,7 +59,7 @@ check-number job proposal = go (checkOf job proposal) refl
 -- ---- packs
 
 -- done is 0, or 13 where there is no room; a refusal stays as it is
-room-number : (others : List ℕ) (most room : ℕ) (bytes : List ℕ) (o : Outcome) → Among others most 13 → Among others most (outcomeOf o .number)
+pub room-number : (others : List ℕ) (most room : ℕ) (bytes : List ℕ) (o : Outcome) → Among others most 13 → Among others most (outcomeOf o .number)
     → Among others most (outcomeOf (inRoom room bytes o .outcome) .number)
 room-number others most room bytes (Refuses number place) t h = h
 room-number others most room bytes (Done n) t h = go (ltb room n)

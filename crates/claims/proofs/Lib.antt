@@ -29,6 +29,7 @@ pub mod Along
 pub mod HousePromises
 pub mod Unwritten
 pub mod Beyond
+pub mod ListCalls
 pub mod CallNumbers
 pub mod FetchTold
 pub mod Seen

@@ -1,4 +1,4 @@
--- What is promised of the nine calls over C, whatever they are lent: short statements about the claims that their contracts cite. The proof of each
+-- What is promised of the twelve calls over C, whatever they are lent: short statements about the claims that their contracts cite. The proof of each
 -- stands in proofs/BenchPromises.antt.
 use Prim.Native.Nat.{ℕ, _+_, _*_, _/_, _%_, _≤_, _<_}
 use mathlib.Core.Path.{_≡_}
@@ -14,11 +14,12 @@ use Rattle.tally.specs.Largest.{Largest}
 use Rattle.measure.specs.declared.check.Verdict.the-variants.{Accepted, Refused}
 use Rattle.measure.specs.Gap.{linkTermOf}
 use Rattle.measure.specs.Check.{checkOf}
+use Rattle.lists.specs.declared.imports.Given.{Given}
 use Rattle.counts.specs.declared.Row.the-variants.{Right}
 use Rattle.counts.specs.Counts.{shelfWords, countIn, testRow, rowIn, Ready}
 use Rattle.shelf.specs.Calls.{Call, own, keep, forget, clear}
 use Rattle.bench.specs.Answers.{hasFour}
-use Rattle.bench.specs.Calls.{CheckSays, TermsSays, ProposeSays, ReadSays, WriteSays, ShelfSays, FetchSays}
+use Rattle.bench.specs.Calls.{CheckSays, TermsSays, ProposeSays, ReadSays, WriteSays, ImportSays, ExportSays, RatesSays, ShelfSays, FetchSays}
 use Rattle.claims.specs.Read.{jobIn, valuesIn, multipliersIn, gapIn}
 use Rattle.claims.specs.Meets.{NoneBelow}
 use Rattle.claims.specs.Far.{NoneFar}
@@ -38,6 +39,9 @@ pub record OfEachCall (holds : (A : Type 0) (answer : List ℕ) (before : List A
   pub propose : (job out answer : List ℕ) → holds ℕ answer out (ProposeSays job out answer)
   pub read : (job : List ℕ) (words : List ℤ) (answer : List ℕ) → holds ℤ answer words (ReadSays job words answer)
   pub write : (words : List ℤ) (out answer : List ℕ) → holds ℕ answer out (WriteSays words out answer)
+  pub from-list : (g : Given) (text out answer : List ℕ) → holds ℕ answer out (ImportSays g text out answer)
+  pub to-list : (rates : List ℕ) (first : ℕ) (out answer : List ℕ) → holds ℕ answer out (ExportSays rates first out answer)
+  pub rates : (text out answer : List ℕ) → holds ℕ answer out (RatesSays text out answer)
   pub on-shelf : (call : Call) (shelf answer : List ℕ) → holds ℕ answer shelf (ShelfSays call shelf answer)
   pub fetch : (shelf job out answer : List ℕ) → holds ℕ answer out (FetchSays shelf job out answer)
 
@@ -70,6 +74,9 @@ pub record Numbered : Type 0 where
   pub propose : (job out answer : List ℕ) → NumberIn (10 ∷ 13 ∷ 20 ∷ []) 5 (ProposeSays job out answer)
   pub read : (job : List ℕ) (words : List ℤ) (answer : List ℕ) → NumberIn (13 ∷ []) 5 (ReadSays job words answer)
   pub write : (words : List ℤ) (out answer : List ℕ) → NumberIn (13 ∷ []) 5 (WriteSays words out answer)
+  pub from-list : (g : Given) (text out answer : List ℕ) → NumberIn (2 ∷ 3 ∷ 4 ∷ 13 ∷ 16 ∷ 17 ∷ 18 ∷ 19 ∷ []) 0 (ImportSays g text out answer)
+  pub to-list : (rates : List ℕ) (first : ℕ) (out answer : List ℕ) → NumberIn (2 ∷ 13 ∷ []) 0 (ExportSays rates first out answer)
+  pub rates : (text out answer : List ℕ) → NumberIn (2 ∷ 13 ∷ 16 ∷ 17 ∷ []) 0 (RatesSays text out answer)
   pub keep : (job proposal shelf answer : List ℕ) → NumberIn (13 ∷ 22 ∷ []) 9 (ShelfSays (own (keep job proposal)) shelf answer)
   pub fetch : (shelf job out answer : List ℕ) → NumberIn (12 ∷ 13 ∷ 22 ∷ []) 9 (FetchSays shelf job out answer)
   pub forget : (society job : ℕ) (shelf answer : List ℕ) → NumberIn (11 ∷ 12 ∷ 13 ∷ 22 ∷ []) 0 (ShelfSays (own (forget society job)) shelf answer)
@@ -97,6 +104,9 @@ pub record OfEachOutput (holds : (A : Type 0) (answer : List ℕ) (before : List
   pub propose : (job out answer : List ℕ) → holds ℕ answer out (ProposeSays job out answer)
   pub read : (job : List ℕ) (words : List ℤ) (answer : List ℕ) → holds ℤ answer words (ReadSays job words answer)
   pub write : (words : List ℤ) (out answer : List ℕ) → holds ℕ answer out (WriteSays words out answer)
+  pub from-list : (g : Given) (text out answer : List ℕ) → holds ℕ answer out (ImportSays g text out answer)
+  pub to-list : (rates : List ℕ) (first : ℕ) (out answer : List ℕ) → holds ℕ answer out (ExportSays rates first out answer)
+  pub rates : (text out answer : List ℕ) → holds ℕ answer out (RatesSays text out answer)
   pub fetch : (shelf job out answer : List ℕ) → holds ℕ answer out (FetchSays shelf job out answer)
 
 -- "A success leaves output beyond what it writes untouched": beyond the place, which is how much it wrote.

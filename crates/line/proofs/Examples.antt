@@ -11,7 +11,8 @@ use Rattle.measure.specs.Loss.{lossOf}
 use Rattle.measure.specs.Gap.{linkSum, residualOf, gapOf}
 use Rattle.measure.specs.Check.{lowestFrom, verdictOf}
 use Rattle.checked.specs.Checked.{checkedOf}
-use Rattle.line.specs.Line.{digitsIn, later, checkedLine, lineOf}
+use Rattle.decimals.specs.Decimal.{digitsIn}
+use Rattle.line.specs.Line.{later, checkedLine, lineOf}
 use Rattle.line.specs.Promises.{WorkedLines}
 
 pub worked-lines : WorkedLines

@@ -1,6 +1,4 @@
 -- Laws that several proofs cite.
-pub mod Digits
-pub mod Stores
 pub mod Parts
 pub mod Widths
 pub mod Rates

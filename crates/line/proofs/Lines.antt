@@ -24,7 +24,7 @@ use Rattle.checked.specs.Checked.{checkedOf}
 use Rattle.checked.specs.Answers.{overwritten}
 use Rattle.checked.proofs.Packs.{given-packs}
 use Rattle.line.specs.Line.{printed, checkedLine, packsLine, lineOf}
-use Rattle.line.specs.Puts.{Puts}
+use Rattle.decimals.specs.Puts.{Puts}
 use Rattle.line.specs.Promises.{LinesFit}
 use Rattle.line.proofs.Widths.{two-fit}
 use Rattle.line.proofs.Tables.{words-fit, accepted-line, refused-lines}

@@ -6,9 +6,11 @@ use native.Mathlib.Numerals.{add-one}
 use native.Mathlib.Omega.{arith}
 use lib.ListN.{length, getD, set, take, drop, take-append-drop}
 use lib.Seq.{take-suc, drop-cons}
-use Rattle.line.specs.Line.{decimal, field, later, printed}
-use Rattle.line.specs.Puts.{Puts, Room, headFields}
-use Rattle.line.proofs.Stores.{puts-then, puts-same, room-first, room-then, room-same}
+use Rattle.decimals.specs.Decimal.{decimal}
+use Rattle.line.specs.Line.{field, later, printed}
+use Rattle.decimals.specs.Puts.{Puts, Room}
+use Rattle.line.specs.Puts.{headFields}
+use Rattle.decimals.proofs.Stores.{puts-then, puts-same, room-first, room-then, room-same}
 
 -- a space, and a number after it
 pub put-spaced : (x : ℕ) {out after : List ℕ} {at r : ℕ} → Puts (decimal x) (set out at 32) (at + 1) r after → Puts (field x) out at r after

@@ -10,8 +10,8 @@ use Rattle.jobs.specs.Words.{countAt}
 use Rattle.checked.specs.Checked.{takenFrom}
 use Rattle.checked.specs.Given.{Rates}
 use Rattle.line.specs.Line.{field, later}
-use Rattle.line.specs.Puts.{Puts, Room}
-use Rattle.line.proofs.Stores.{puts-same}
+use Rattle.decimals.specs.Puts.{Puts, Room}
+use Rattle.decimals.proofs.Stores.{puts-same}
 use Rattle.line.proofs.Parts.{room-next, put-next}
 use Rattle.line.proofs.Widths.{values-length, value-at}
 

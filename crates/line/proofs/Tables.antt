@@ -16,9 +16,10 @@ use Rattle.checked.specs.Checked.{takenFrom, checkedOf}
 use Rattle.checked.specs.Given.{JobWords, Rates}
 use Rattle.checked.proofs.Packs.{packs-name}
 use Rattle.line.specs.Line.{later, printed, verdictLine, checkedLine}
-use Rattle.line.specs.Puts.{Puts, Room, headFields}
+use Rattle.decimals.specs.Puts.{Puts, Room}
+use Rattle.line.specs.Puts.{headFields}
 use Rattle.line.specs.Promises.{RefusedLines}
-use Rattle.line.proofs.Stores.{puts-then, puts-same, room-first, room-then, room-same}
+use Rattle.decimals.proofs.Stores.{puts-then, puts-same, room-first, room-then, room-same}
 use Rattle.line.proofs.Parts.{table-parts}
 use Rattle.line.proofs.Widths.{table-fits, rates-small}
 

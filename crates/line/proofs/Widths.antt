@@ -10,9 +10,10 @@ use Rattle.jobs.specs.Words.{wordAt}
 use Rattle.checked.specs.Checked.{takenFrom}
 use Rattle.checked.specs.Given.{Rates}
 use Rattle.checked.proofs.Values.{length-map, map-at}
-use Rattle.line.specs.Line.{decimal, field, later, printed}
+use Rattle.decimals.specs.Decimal.{decimal}
+use Rattle.line.specs.Line.{field, later, printed}
 use Rattle.line.specs.Puts.{headFields}
-use Rattle.line.proofs.Digits.{decimals-shortest, digits-most}
+use Rattle.decimals.proofs.Digits.{decimals-shortest, digits-most}
 
 printed-length : (first : ℕ) (rest : List ℕ) → length (printed first rest) ≡ length (decimal first) + (length (later rest) + 1)
 printed-length first rest = length-append (decimal first) (later rest ++ (10 ∷ [])) ∙ ap (λ (k : ℕ). length (decimal first) + k) (length-append (later rest) (10 ∷ []))

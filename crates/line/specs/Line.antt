@@ -1,5 +1,5 @@
 -- Document 01, "The checking program": the line that it prints for an input.
-use Prim.Native.Nat.{ℕ, zero, suc, _+_, _-_, _/_, _%_}
+use Prim.Native.Nat.{ℕ, _+_, _-_}
 use mathlib.Core.List.{List, [], _∷_, _++_}
 use lib.Dec.{ltb}
 use lib.IntN.{natAbs}
@@ -8,20 +8,12 @@ use Rattle.numbers.specs.Choice.{if_then_else_}
 use Rattle.numbers.specs.declared.plain.Number.{Number}
 use Rattle.numbers.specs.declared.plain.Number.the-variants.{Value, Unreadable}
 use Rattle.numbers.specs.Plain.{numberAt}
+use Rattle.decimals.specs.Decimal.{decimal}
 use Rattle.measure.specs.declared.check.Verdict.{Verdict}
 use Rattle.measure.specs.declared.check.Verdict.the-variants.{Accepted, Refused}
 use Rattle.checked.specs.Checked.{Checked, checkedOf}
 
 -- ---- a line of numbers
--- The ASCII digits of x, in at most so many.
-unfoldable pub digitsIn : ℕ → ℕ → List ℕ
-digitsIn zero x = []
-digitsIn (suc digits) x = if ltb x 10 then (48 + x) ∷ [] else digitsIn digits (x / 10) ++ ((48 + x % 10) ∷ [])
-
--- x in decimal, without a leading zero: 20 digits hold every 64-bit number.
-abbrev pub decimal : ℕ → List ℕ
-decimal x = digitsIn 20 x
-
 -- "Fields are parted by one space": a field after the first, with the space before it, and all such fields.
 abbrev pub field : ℕ → List ℕ
 field x = 32 ∷ decimal x

@@ -1,32 +1,14 @@
 -- What is promised of the lines.
-use Prim.Native.Nat.{ℕ, suc, _+_, _-_, _*_, _^_, _≤_, _<_}
+use Prim.Native.Nat.{ℕ, _≤_}
 use mathlib.Core.Path.{_≡_}
 use mathlib.Core.List.{List, [], _∷_}
 use lib.ListN.{length}
 use Rattle.measure.specs.declared.check.Verdict.the-variants.{Refused}
 use Rattle.measure.specs.Check.{checkOf}
 use Rattle.checked.specs.Checked.{checkedOf}
-use Rattle.line.specs.Line.{decimal, printed, checkedLine, lineOf}
+use Rattle.decimals.specs.Decimal.{decimal}
+use Rattle.line.specs.Line.{printed, checkedLine, lineOf}
 
--- ---- numbers
--- The number that ASCII digits stand for, after digits that come to so much.
-abbrev pub numeral : ℕ → List ℕ → ℕ
-numeral before [] = before
-numeral before (digit ∷ digits) = numeral (10 * before + (digit - 48)) digits
-
--- Every byte is one of the digits 0 to 9.
-abbrev pub AllDigits : List ℕ → Type 0
-AllDigits [] = Unit {0}
-AllDigits (digit ∷ digits) = ((48 ≤ digit) × (digit ≤ 57)) × AllDigits digits
-
--- The digits of a 64-bit number are digits and stand for it, and there are no more of them than it needs: so none is a leading zero.
-abbrev pub DecimalsReadBack : Type 0
-DecimalsReadBack = (x : ℕ) → x < 2 ^ 64 → AllDigits (decimal x) × (numeral 0 (decimal x) ≡ x)
-
-abbrev pub DecimalsShortest : Type 0
-DecimalsShortest = (k x : ℕ) → x < 10 ^ suc k → length (decimal x) ≤ suc k
-
--- ---- lines
 -- Every line fits the 1,024 bytes that are lent for it.
 abbrev pub LinesFit : Type 0
 LinesFit = (input : List ℕ) → length (lineOf input) ≤ 1024

@@ -1,18 +1,8 @@
--- What the functions that put a part of a line say: the bytes stand at the offset, the rest is untouched, and the answer is the offset after them.
-use Prim.Native.Nat.{ℕ, _+_, _≤_}
-use mathlib.Core.Path.{_≡_}
+-- The parts of a line that functions put (`Puts` of `decimals`).
+use Prim.Native.Nat.{ℕ}
 use mathlib.Core.List.{List, _++_}
-use lib.ListN.{length}
-use lib.Seq.{sets}
-use Rattle.line.specs.Line.{decimal, field}
-
-pub record Puts (bytes : List ℕ) (out : List ℕ) (at r : ℕ) (after : List ℕ) : Type 0 where
-  pub next : r ≡ at + length bytes
-  pub stored : after ≡ sets out at bytes
-
--- What they ask for: room for the bytes.
-pub record Room (bytes : List ℕ) (at : ℕ) (out : List ℕ) : Type 0 where
-  pub fits : at + length bytes ≤ length out
+use Rattle.decimals.specs.Decimal.{decimal}
+use Rattle.line.specs.Line.{field}
 
 -- The fields of an accepted table's line before its values.
 abbrev pub headFields : (society job loss gap : ℕ) → List ℕ

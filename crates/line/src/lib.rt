@@ -6,9 +6,8 @@ ghost use Rattle.numbers.specs.declared.plain.Number.the-variants.{Value};
 ghost use Rattle.checked.specs.Checked.{checkedOf};
 ghost use Rattle.checked.specs.Answers.{overwritten};
 ghost use Rattle.line.specs.Line.{checkedLine, packsLine, lineOf};
-ghost use Rattle.line.specs.Puts.{Puts};
+ghost use Rattle.decimals.specs.Puts.{Puts};
 
-mod decimal;
 mod parted;
 mod table;
 

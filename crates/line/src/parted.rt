@@ -5,8 +5,8 @@ ghost use lib.ListN.{length};
 ghost use Rattle.checked.specs.Checked.{takenFrom};
 ghost use Rattle.checked.specs.Given.{Rates};
 ghost use Rattle.line.specs.Line.{field, later, printed};
-ghost use Rattle.line.specs.Puts.{Puts, Room};
-use crate::decimal::put_number;
+ghost use Rattle.decimals.specs.Puts.{Puts, Room};
+use decimals::printing::put_number;
 use checked::count_at;
 
 const SPACE: u8 = 32;

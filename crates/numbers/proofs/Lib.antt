@@ -5,3 +5,4 @@ pub mod Bytes
 pub mod Climb
 pub mod Inverse
 pub mod Signs
+pub mod Stores

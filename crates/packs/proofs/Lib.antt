@@ -1,5 +1,4 @@
 -- The laws behind the functions of this crate and its promises. Each file says what it is for.
-pub mod Stores
 pub mod Forward
 pub mod Packed
 pub mod Along

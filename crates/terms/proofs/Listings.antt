@@ -14,7 +14,7 @@ use lib.IntN.{ℤ, pos}
 use lib.ListN.{length, set, length-append, List·getD-append}
 use lib.Seq.{sets, getD-append-add}
 use Rattle.numbers.specs.Choice.{if_then_else_}
-use Rattle.packs.proofs.Stores.{sets-append}
+use Rattle.numbers.proofs.Stores.{sets-append}
 use Rattle.jobs.specs.Job.{Job}
 use Rattle.jobs.specs.Words.{wordAt, cellsOf, jobOf}
 use Rattle.tally.specs.declared.term.Supplied.{Supplied}

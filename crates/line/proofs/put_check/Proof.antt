@@ -8,7 +8,7 @@ use Rattle.jobs.specs.Packs.{readJob}
 use Rattle.measure.specs.Opening.{proposalWords}
 use Rattle.measure.proofs.Packed.{lent-length}
 use Rattle.checked.proofs.Packs.{given-packs}
-use Rattle.line.proofs.Stores.{puts-same}
+use Rattle.decimals.proofs.Stores.{puts-same}
 use Rattle.line.proofs.Tables.{tableLine, accepted-line, refused-lines}
 use borrow.Author.Needs.{needs}
 use Rattle.line.proofs.put_check.Statement.{statement}

@@ -1,5 +1,5 @@
 -- The job pack is the part of that size, and the proposal pack what is left.
-use Rattle.line.proofs.Stores.{puts-same}
+use Rattle.decimals.proofs.Stores.{puts-same}
 use Rattle.line.proofs.Lines.{beyond-line, packs-line}
 use borrow.Author.Needs.{needs}
 use Rattle.line.proofs.put_packs.Statement.{statement}

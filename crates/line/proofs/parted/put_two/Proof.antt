@@ -1,7 +1,7 @@
 -- The number, a field and the line feed, one after another; 1,024 bytes hold them all, as no number has more than 20 digits.
 use native.Mathlib.Omega.{arith}
-use Rattle.line.proofs.Stores.{puts-then, puts-same, puts-length}
-use Rattle.line.proofs.Digits.{digits-most}
+use Rattle.decimals.proofs.Stores.{puts-then, puts-same, puts-length}
+use Rattle.decimals.proofs.Digits.{digits-most}
 use Rattle.line.proofs.Parts.{pair-parts}
 use borrow.Author.Needs.{needs}
 use Rattle.line.proofs.parted.put_two.Statement.{statement}

@@ -4,8 +4,8 @@ use native.Mathlib.Omega.{arith}
 use lib.ListN.{take}
 use Rattle.checked.specs.Checked.{takenFrom}
 use Rattle.line.specs.Line.{later}
-use Rattle.line.specs.Puts.{Puts}
-use Rattle.line.proofs.Stores.{puts-length}
+use Rattle.decimals.specs.Puts.{Puts}
+use Rattle.decimals.proofs.Stores.{puts-length}
 use Rattle.line.proofs.Parts.{put-none}
 use Rattle.line.proofs.Rates.{rate-count, room-rate, put-rate, put-rates-all}
 use borrow.Author.Needs.{needs}

@@ -1,6 +1,6 @@
 -- Five fields, one after another; there is room for them in any order.
 use native.Mathlib.Omega.{arith}
-use Rattle.line.proofs.Stores.{puts-then, puts-length}
+use Rattle.decimals.proofs.Stores.{puts-then, puts-length}
 use Rattle.line.proofs.Widths.{head-length}
 use borrow.Author.Needs.{needs}
 use Rattle.line.proofs.table.put_head.Statement.{statement}

@@ -5,7 +5,7 @@ use native.Mathlib.Omega.{arith}
 use lib.IntN.{ℤ, natAbs}
 use mir.Facts.{toZ-ofZ}
 use Rattle.jobs.specs.Words.{cellsOf}
-use Rattle.line.proofs.Stores.{puts-same}
+use Rattle.decimals.proofs.Stores.{puts-same}
 use Rattle.line.proofs.Tables.{tableLine}
 use borrow.Author.Needs.{needs}
 use Rattle.line.proofs.table.put_table.Statement.{statement}

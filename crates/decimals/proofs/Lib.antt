@@ -1,0 +1,5 @@
+-- Laws that several proofs cite.
+pub mod Digits
+pub mod Stores
+pub mod Wholes
+pub mod Back

@@ -11,9 +11,9 @@ use Rattle.jobs.specs.Packs.{readJobInto, writeJob}
 use Rattle.measure.specs.Check.{checkOf}
 use Rattle.terms.specs.Listing.{termsOf}
 use Rattle.house.specs.Proposal.{proposeOf}
-use Rattle.lists.specs.declared.imports.Given.{Given}
-use Rattle.lists.specs.Imports.{importOf}
-use Rattle.lists.specs.Exports.{exportOf, ratesOf}
+use Rattle.imports.specs.declared.Given.{Given}
+use Rattle.imports.specs.Imports.{importOf}
+use Rattle.exports.specs.Exports.{exportOf, ratesOf}
 use Rattle.checked.specs.declared.Answer.{Answer}
 use Rattle.checked.specs.Answers.{refusal, overwritten, answerOf}
 use Rattle.shelf.specs.Calls.{Call, own, fetch, after, said}

@@ -4,7 +4,7 @@ use crate::answers::ANSWER_WORDS;
 use crate::answers::NO_ANSWER;
 use crate::answers::give;
 use crate::answers::of_outcome;
-use lists::imports::Given;
+use imports::Given;
 
 // Write the job pack of a claims list to the output.
 #[no_mangle]
@@ -36,7 +36,7 @@ pub extern "C" fn bench_import(
         floor,
         ceiling,
     };
-    let outcome = lists::imports::import(text, g, out);
+    let outcome = imports::import(text, g, out);
     give(answer, of_outcome(outcome))
 }
 
@@ -48,7 +48,7 @@ pub extern "C" fn bench_export(rates: &[u32], first: u64, out: &mut [u8], answer
     if answer.len() != ANSWER_WORDS {
         return NO_ANSWER;
     }
-    let outcome = lists::exports::export(rates, first, out);
+    let outcome = exports::text::export(rates, first, out);
     give(answer, of_outcome(outcome))
 }
 
@@ -60,6 +60,6 @@ pub extern "C" fn bench_rates(text: &[u8], out: &mut [u32], answer: &mut [u64]) 
     if answer.len() != ANSWER_WORDS {
         return NO_ANSWER;
     }
-    let outcome = lists::exports::rates(text, out);
+    let outcome = exports::back::rates(text, out);
     give(answer, of_outcome(outcome))
 }

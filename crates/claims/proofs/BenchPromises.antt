@@ -12,8 +12,8 @@ use Rattle.jobs.specs.Packs.{readJobInto, writeJob}
 use Rattle.measure.specs.Check.{checkOf}
 use Rattle.terms.specs.Listing.{termsOf}
 use Rattle.house.specs.Proposal.{proposeOf}
-use Rattle.lists.specs.Imports.{importOf}
-use Rattle.lists.specs.Exports.{exportOf, ratesOf}
+use Rattle.imports.specs.Imports.{importOf}
+use Rattle.exports.specs.Exports.{exportOf, ratesOf}
 use Rattle.checked.specs.declared.Answer.{Answer}
 use Rattle.checked.specs.Answers.{answerOf}
 use Rattle.checked.specs.Checked.{checkedOf}
@@ -194,15 +194,6 @@ accepted-told = record {
   keep = λ job proposal shelf answer r a x says z.
       let t = told-by (said-small shelf (own (keep job proposal))) says z in
       kept-told job proposal shelf a (t .0) (t .1);
-  from-list = λ g text out answer r a x says z.
-      let made = importOf g (length out) text in
-      rest-by (import-small g (length out) text) says (λ m e. beyond-made (made .bytes) out m (omega (arith, e, import-within g (length out) text))) z;
-  to-list = λ rates first out answer r a x says z.
-      let made = exportOf (length out) first rates in
-      rest-by (export-small (length out) first rates) says (λ m e. beyond-made (made .bytes) out m (omega (arith, e, export-within (length out) first rates))) z;
-  rates = λ text out answer r a x says z.
-      let made = ratesOf (length out) text in
-      rest-by (rates-small (length out) text) says (λ m e. beyond-made (made .values) out m (omega (arith, e, rates-within (length out) text))) z;
   fetch = λ shelf job out answer r a x says z.
       let t = told-by (said-small shelf (own (fetch job (length out)))) says z in
       fetch-told shelf job out a x (t .0) (t .1) (t .2);

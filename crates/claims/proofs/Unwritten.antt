@@ -35,10 +35,10 @@ verdict-kept (Accepted F G) before n = absurd (n refl)
 verdict-kept (Refused number place) before n = (refl, refl, refl)
 
 -- an outcome that is a refusal comes with nothing to write
-abbrev pub Nothing : {A : Type 0} → Outcome → List A → Type 0
+abbrev Nothing : {A : Type 0} → Outcome → List A → Type 0
 Nothing o made = (outcomeOf o .number ≡ 0 → ⊥) → made ≡ []
 
-pub room-nothing : (room : ℕ) (bytes : List ℕ) (o : Outcome) → Nothing (inRoom room bytes o .outcome) (inRoom room bytes o .bytes)
+room-nothing : (room : ℕ) (bytes : List ℕ) (o : Outcome) → Nothing (inRoom room bytes o .outcome) (inRoom room bytes o .bytes)
 room-nothing room bytes (Refuses number place) n = refl
 room-nothing room bytes (Done k) n = go (ltb room k) n
   where
@@ -77,7 +77,7 @@ on-read-nothing room words (Done k) n = proposed-nothing room (jobOf words) n
 on-read-nothing room words (Refuses number place) n = refl
 
 -- and so leaves what was lent
-pub left-kept : {A : Type 0} (o : Outcome) (made before : List A) → Nothing o made → Kept (outcomeOf o) before (sets before 0 made)
+left-kept : {A : Type 0} (o : Outcome) (made before : List A) → Nothing o made → Kept (outcomeOf o) before (sets before 0 made)
 left-kept o made before k n = (ap (sets before 0) (k n), plain o .0, plain o .1)
   where
     plain : (o : Outcome) → (outcomeOf o .loss ≡ 0) × (outcomeOf o .gap ≡ 0)

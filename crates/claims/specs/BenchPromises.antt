@@ -14,7 +14,7 @@ use Rattle.tally.specs.Largest.{Largest}
 use Rattle.measure.specs.declared.check.Verdict.the-variants.{Accepted, Refused}
 use Rattle.measure.specs.Gap.{linkTermOf}
 use Rattle.measure.specs.Check.{checkOf}
-use Rattle.lists.specs.declared.imports.Given.{Given}
+use Rattle.imports.specs.declared.Given.{Given}
 use Rattle.counts.specs.declared.Row.the-variants.{Right}
 use Rattle.counts.specs.Counts.{shelfWords, countIn, testRow, rowIn, Ready}
 use Rattle.shelf.specs.Calls.{Call, own, keep, forget, clear}

@@ -9,6 +9,7 @@ use borrow.Author.Tests.{ltb-false, eqb-false, lt-ltb, ne-eqb}
 use lib.Dec.{ltb, eqb}
 use lib.ListN.{length, getD}
 use Rattle.numbers.specs.Choice.{if_then_else_}
+use Rattle.numbers.proofs.Clash.{clash}
 use Rattle.decimals.specs.declared.reading.Whole.{Whole}
 use Rattle.decimals.specs.declared.reading.Whole.the-variants.{Number, Malformed}
 use Rattle.decimals.specs.Decimal.{digitsIn, decimal}
@@ -111,8 +112,7 @@ decimal-of (b ∷ c ∷ s) some led a l = go (eqb b 48) refl
         let long : ltb 1 (length (b ∷ c ∷ s)) ≡ true = lt-ltb 1 (length (b ∷ c ∷ s)) (omega arith) in
         let t : (eqb b 48 && ltb 1 (length (b ∷ c ∷ s))) ≡ true = rw (q, long) in
         let z : _≡_ {A = Bool} true false = sym t ∙ led in
-        let y : _≡_ {A = ℕ} 0 1 = cc in
-        absurd (omega arith)
+        clash (cc)
     go false q =
         let some : 1 ≤ b - 48 = omega (arith, a .0 .0, eqb-false b 48 q) in
         sym (
@@ -125,7 +125,7 @@ pub wholes-written-back : WholesWrittenBack
 wholes-written-back s x e = go (eqb (length s) 0) refl (leadingZero s) refl
   where
     absurdly : (w : Whole) → Malformed ≡ w → w ≡ Number x → (s ≡ decimal x) × (x ≤ largest)
-    absurdly w p q = let z : _≡_ {A = ℕ} 0 1 = cc in absurd (omega arith)
+    absurdly w p q = clash (cc)
 
     go : (t : Bool) → eqb (length s) 0 ≡ t → (u : Bool) → leadingZero s ≡ u → (s ≡ decimal x) × (x ≤ largest)
     go true p u q = absurdly (wholeOf s) (rw p) e

@@ -10,6 +10,7 @@ use lib.Dec.{leb, eqb}
 use lib.ListN.{length, getD, drop, drop-of-length-le}
 use lib.Seq.{drop-cons}
 use Rattle.numbers.specs.Choice.{if_then_else_}
+use Rattle.numbers.proofs.Clash.{clash}
 use Rattle.decimals.specs.declared.reading.Whole.{Whole}
 use Rattle.decimals.specs.declared.reading.Whole.the-variants.{Number, Malformed}
 use Rattle.decimals.specs.Whole.{largest, isDigit, digitAfter, onDigit, valueFrom, leadingZero, wholeOf}
@@ -20,7 +21,7 @@ both true b e = (refl, e)
 both false b e = (e, never b)
   where
     never : (t : Bool) → t ≡ true
-    never t = let z : _≡_ {A = ℕ} 0 1 = cc in absurd (omega arith)
+    never t = clash (cc)
 
 -- ---- one byte
 pub digit-low : (before b : ℕ) → b < 48 → Malformed ≡ digitAfter before b
@@ -57,7 +58,7 @@ digit-counts before b value e = go (isDigit b && leb (10 * before + (b - 48)) la
           made = sym made;
           small = omega (arith, leb-true (10 * before + (b - 48)) largest (tests .1));
         }
-    go false q e = let z : _≡_ {A = ℕ} 0 1 = cc in absurd (omega arith)
+    go false q e = clash (cc)
 
 -- ---- the tests before the digits
 pub no-field : (s : List ℕ) → length s ≡ 0 → Malformed ≡ wholeOf s

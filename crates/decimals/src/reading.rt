@@ -9,7 +9,8 @@ pub enum Whole {
     Malformed,
 }
 
-const LARGEST: u64 = 1000000000;
+// The largest number of a field.
+pub const LARGEST: u64 = 1000000000;
 
 const ZERO: u8 = 48;
 

@@ -10,6 +10,7 @@ use borrow.Author.Tests.{eq-eqb, ne-eqb, eqb-true}
 use lib.Dec.{eqb}
 use lib.ListN.{length, getD, drop, length-drop, drop-of-length-le, List·getD-eq-default}
 use lib.Seq.{drop-cons, getD-drop}
+use Rattle.numbers.proofs.Clash.{clash}
 use Rattle.decimals.proofs.Wholes.{both}
 use Rattle.lists.specs.Cut.{lengthTo, isBreak, isComma, lineIn, linesAfter, linesIn, linesOf, sameBytes}
 
@@ -111,8 +112,8 @@ cons-eq x y a b e q = cc
 pub bytes-equal : (a b : List ℕ) → sameBytes a b ≡ true → a ≡ b
 unfolding sameBytes
 bytes-equal [] [] e = refl
-bytes-equal [] (y ∷ b) e = let z : _≡_ {A = ℕ} 0 1 = cc in absurd (omega arith)
-bytes-equal (x ∷ a) [] e = let z : _≡_ {A = ℕ} 0 1 = cc in absurd (omega arith)
+bytes-equal [] (y ∷ b) e = clash (cc)
+bytes-equal (x ∷ a) [] e = clash (cc)
 bytes-equal (x ∷ a) (y ∷ b) e =
     let tests = both (eqb x y) (sameBytes a b) e in
     cons-eq x y a b (eqb-true x y (tests .0)) (bytes-equal a b (tests .1))

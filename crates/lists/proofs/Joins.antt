@@ -9,16 +9,12 @@ use borrow.Author.Tests.{ne-eqb, eqb-true, ltb-true, ltb-false}
 use lib.Dec.{eqb, ltb}
 use lib.ListN.{length, take, drop, length-drop, length-append, drop-of-length-le, take-append-drop}
 use lib.Seq.{take-at, take-all, drop-drop}
+use Rattle.numbers.proofs.Clash.{clash}
 use Rattle.decimals.specs.Promises.{AllDigits}
 use Rattle.decimals.proofs.Wholes.{both}
-use Rattle.lists.specs.Cut.{lengthTo, isBreak, lineIn, linesAfter, linesOf}
-use Rattle.lists.specs.Exports.{lineEnd}
+use Rattle.lists.specs.Cut.{lineEnd, lengthTo, isBreak, lineIn, linesAfter, linesOf}
+use Rattle.lists.specs.Promises.{joined, LinesJoined}
 use Rattle.lists.proofs.Cuts.{here-cons, on-cons, at-place, lines-none, lines-some}
-
--- lines, each with its end
-pub joined : List (List ℕ) → List ℕ
-joined [] = []
-joined (l ∷ ls) = l ++ (lineEnd ++ joined ls)
 
 pub joined-nil : joined [] ≡ []
 unfolding joined
@@ -79,7 +75,7 @@ plain-none = tt
 
 -- ---- a text joined again
 two-bytes : (s : List ℕ) → isBreak s ≡ true → s ≡ lineEnd ++ drop 2 s
-two-bytes [] e = let z : _≡_ {A = ℕ} 0 1 = cc in absurd (omega arith)
+two-bytes [] e = clash (cc)
 two-bytes (a ∷ []) e =
     let tests = both (eqb a 13) false e in
     let z : _≡_ {A = ℕ} 0 1 = cc (tests .1) in
@@ -133,5 +129,5 @@ join-all (suc f) (b ∷ s) h = go (ltb (lengthTo isBreak (b ∷ s)) (length (b �
         (ih (omega (arith, length-drop (lengthTo isBreak (b ∷ s) + 2) (b ∷ s))))
     go false e ih = join-last (b ∷ s) (omega arith) (ltb-false (lengthTo isBreak (b ∷ s)) (length (b ∷ s)) e)
 
-pub lines-joined : (s : List ℕ) → (joined (linesOf s) ≡ s) ⊎ (joined (linesOf s) ≡ s ++ lineEnd)
+pub lines-joined : LinesJoined
 lines-joined s = join-all (length s) s (omega arith)

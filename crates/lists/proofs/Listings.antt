@@ -1,30 +1,31 @@
 -- Lines are read as a list exactly if they are well formed, with ages rising by one and no deaths above exposure.
-use Prim.Native.Nat.{ℕ, _+_, _≤_, _<_}
-use mathlib.Core.Path.{_≡_, refl, sym, ap, ap₂, _∙_}
+use Prim.Native.Nat.{ℕ, suc, _+_, _≤_, _<_}
+use mathlib.Core.Path.{_≡_, refl, sym, ap, _∙_}
 use mathlib.Core.Logic.{_⊎_, inl, inr}
 use mathlib.Core.Bool.{Bool, true, false, _&&_}
 use mathlib.Core.List.{List, [], _∷_}
+use native.Mathlib.Nat.{zero-add}
 use native.Mathlib.Omega.{arith}
 use borrow.Author.Tests.{eq-eqb, eqb-true, eqb-false, ltb-false}
 use lib.Dec.{eqb, ltb}
 use lib.ListN.{length}
-use Rattle.packs.specs.declared.Outcome.{Outcome}
+use Rattle.numbers.proofs.Clash.{clash}
 use Rattle.packs.specs.declared.Outcome.the-variants.{Done, Refused}
-use Rattle.packs.specs.Writing.{Written, roomed}
-use Rattle.jobs.specs.Packs.{writeJob}
-use Rattle.lists.specs.declared.imports.Given.{Given}
 use Rattle.lists.specs.declared.lines.Line.{Line}
 use Rattle.lists.specs.declared.lines.Line.the-variants.{Entry, Fault}
 use Rattle.lists.specs.declared.lines.Row.the-variants.{Fields}
 use Rattle.lists.specs.Cut.{linesOf, sameBytes}
 use Rattle.lists.specs.Lines.{mostLines, headerOf, inSequence, tested, lineOf, Listed, endsWith, onLine, listedFrom, listedOf}
-use Rattle.lists.specs.Imports.{wordsOf, importOf}
-use Rattle.lists.specs.Promises.{rowText, InRange, Listing, none, line, ClaimsList, ImportedExactly}
+use Rattle.lists.specs.Promises.{rowText, InRange, Listing, none, line, ReadExactly}
 use Rattle.lists.proofs.Cuts.{bytes-same, bytes-equal}
 use Rattle.lists.proofs.Tests.{Good, line-good, sequence-first, sequence-later, deaths-within, no-deaths, within-120}
 use Rattle.lists.proofs.Walks.{listed-step, listed-end}
-use Rattle.lists.proofs.Whole.{list-count, divisor-none, importing}
+use Rattle.lists.proofs.Whole.{list-count}
 use Rattle.lists.proofs.Rows.{rows-exactly}
+
+pub same-length : {claims : Bool} {age : ℕ} {lines : List (List ℕ)} {es ds : List ℕ} → Listing claims age lines es ds → length es ≡ length ds
+same-length none = refl
+same-length (line r below L) = ap suc (same-length L)
 
 -- ---- a line written out is read
 good-line : (claims : Bool) (k before age exposure count : ℕ) → k < mostLines → InRange claims age exposure count → inSequence k before age ≡ true
@@ -83,7 +84,7 @@ listing-read claims k before {age} (line {exposure = exposure} {count = count} {
 -- ---- what was read was such lines
 deaths-of : (claims : Bool) (exposure count : ℕ) → (claims && ltb exposure count) ≡ false → claims ≡ true → count ≤ exposure
 deaths-of true exposure count e t = ltb-false exposure count e
-deaths-of false exposure count e t = let z : _≡_ {A = ℕ} 0 1 = cc in absurd (omega arith)
+deaths-of false exposure count e t = clash (cc)
 
 module _ (claims : Bool) (k before : ℕ) (l : List ℕ) (lines : List (List ℕ)) (age exposure count : ℕ) (e : lineOf claims k before l ≡ Entry age exposure count) where
   good : Good claims k before l age exposure count
@@ -105,7 +106,7 @@ module _ (claims : Bool) (k before : ℕ) (l : List ℕ) (lines : List (List ℕ
       rw (ap (λ (x : Listed). x .exposures) step, ap (λ (x : Listed). x .counts) step, row-good .1) (line (row-good .0) deaths-good L)
 
 refused-done : {number place n : ℕ} → Refused number place ≡ Done n → ⊥
-refused-done e = let z : _≡_ {A = ℕ} 0 1 = cc in omega arith
+refused-done e = clash (cc)
 
 pub listing-of : (claims : Bool) (k before : ℕ) (lines : List (List ℕ)) (n : ℕ) → (k ≡ 0 → ⊥) → listedFrom claims k before lines .outcome ≡ Done n
     → Listing claims (before + 1) lines (listedFrom claims k before lines .exposures) (listedFrom claims k before lines .counts)
@@ -169,32 +170,12 @@ headed-read claims {all} {lines} e L h =
     let same : listedOf claims all ≡ listedFrom claims 0 0 lines = ap (listedOf claims) e ∙ rw (bytes-same (headerOf claims)) in
     read-same same (listing-read claims 0 0 L (omega arith) (inl refl))
 
--- ---- the import
-imported : (g : Given) (room : ℕ) (text exposures deaths : List ℕ) → (g .divisor ≡ 0 → ⊥) → ClaimsList text exposures deaths
-    → importOf g room text ≡ roomed room (writeJob (wordsOf g exposures deaths))
-imported g room text exposures deaths h C =
-    let read = headed-read true (C .headed) (C .listing) (C .few) in
-    sym (importing g room text h (read .ends))
-    ∙ ap₂ (λ (es ds : List ℕ). roomed room (writeJob (wordsOf g es ds))) (read .same-exposures) (read .same-counts)
-
-only : (g : Given) (room : ℕ) (text : List ℕ) (n : ℕ) → importOf g room text .outcome ≡ Done n
-    → (g .divisor ≡ 0 → ⊥) × ((exposures : List ℕ) × ((deaths : List ℕ) × ClaimsList text exposures deaths))
-only g room text n e = (some, go (listedOf true (linesOf text) .outcome) refl)
-  where
-    some : g .divisor ≡ 0 → ⊥
-    some z = refused-done (ap (λ (w : Written). w .outcome) (divisor-none g room text z) ∙ e)
-
-    go : (o : Outcome) → listedOf true (linesOf text) .outcome ≡ o → (exposures : List ℕ) × ((deaths : List ℕ) × ClaimsList text exposures deaths)
-    go (Done m) q =
-        let w = whole-list true (linesOf text) m q in
-        let c = list-count true (linesOf text) m q in (
-          listedOf true (linesOf text) .exposures,
-          (
-            listedOf true (linesOf text) .counts,
-            record { first = w .first; lines = w .lines; headed = w .headed; few = omega (arith, c .exposures, c .few); listing = w .listing },
-          ),
-        )
-    go (Refused number place) q = absurd (refused-done (ap (λ (w : Written). w .outcome) (importing g room text some q) ∙ e))
-
-pub imported-exactly : ImportedExactly
-imported-exactly = record { imported = imported; only = only }
+pub read-exactly : ReadExactly
+read-exactly =
+    record {
+      read = λ claims text exposures counts L. let r = headed-read claims (L .headed) (L .listing) (L .few) in (r .same-exposures, r .same-counts, r .ends ∙ ap Done (zero-add (length exposures)));
+      only = λ claims text n e.
+          let w = whole-list claims (linesOf text) n e in
+          let c = list-count claims (linesOf text) n e in
+          record { first = w .first; lines = w .lines; headed = w .headed; few = omega (arith, c .exposures, c .few); listing = w .listing };
+    }

@@ -10,6 +10,7 @@ use borrow.Author.Tests.{ne-eqb, eqb-true, ltb-true, ltb-false}
 use lib.Dec.{ltb}
 use lib.ListN.{length, getD, take, drop, drop-of-length-le}
 use lib.Seq.{take-at, split-at, getD-drop}
+use Rattle.numbers.proofs.Clash.{clash}
 use Rattle.decimals.specs.declared.reading.Whole.{Whole}
 use Rattle.decimals.specs.declared.reading.Whole.the-variants.{Number, Malformed}
 use Rattle.decimals.specs.Decimal.{decimal}
@@ -81,8 +82,8 @@ module _ (line : List ℕ) (some : (fieldsAfter line ≡ []) → ⊥) where
 
 -- an empty field is no number, and an empty line no pair
 not-empty : (s : List ℕ) (x : ℕ) → wholeOf s ≡ Number x → s ≡ [] → ⊥
-not-empty [] x e q = let z : _≡_ {A = ℕ} 0 1 = cc in omega arith
-not-empty (b ∷ s) x e q = let z : _≡_ {A = ℕ} 0 1 = cc in omega arith
+not-empty [] x e q = clash (cc)
+not-empty (b ∷ s) x e q = clash (cc)
 
 pub record Pair (line : List ℕ) (age exposure count : ℕ) : Type 0 where
   pub age-small : age ≤ largest
@@ -108,15 +109,15 @@ pair-only line age exposure count e = go (wholeOf (fieldIn line)) refl (wholeOf 
               cut-at line (there line (not-empty (fieldsAfter line) y q))
               ∙ ap₂ (λ (s t : List ℕ). s ++ (44 ∷ t)) (a .0 ∙ ap decimal first) (b .0 ∙ ap decimal last);
         }
-    go (Number x) p Malformed q e = let z : _≡_ {A = ℕ} 0 1 = cc in absurd (omega arith)
-    go Malformed p b q e = let z : _≡_ {A = ℕ} 0 1 = cc in absurd (omega arith)
+    go (Number x) p Malformed q e = clash (cc)
+    go Malformed p b q e = clash (cc)
 
 no-pair : (line : List ℕ) (age exposure count : ℕ) → pairOf line ≡ Fields age exposure count → line ≡ [] → ⊥
 no-pair line age exposure count e q = starts (decimal age) (decimal count) (sym q ∙ pair-only line age exposure count e .text)
   where
     starts : (s t : List ℕ) → [] ≡ s ++ (44 ∷ t) → ⊥
-    starts [] t e = let z : _≡_ {A = ℕ} 0 1 = cc in omega arith
-    starts (b ∷ s) t e = let z : _≡_ {A = ℕ} 0 1 = cc in omega arith
+    starts [] t e = clash (cc)
+    starts (b ∷ s) t e = clash (cc)
 
 triple-only : (line : List ℕ) (age exposure count : ℕ) → threeOf (wholeOf (fieldIn line)) (pairOf (fieldsAfter line)) ≡ Fields age exposure count
     → InRange true age exposure count × (line ≡ rowText true age exposure count)
@@ -137,8 +138,8 @@ triple-only line age exposure count e = go (wholeOf (fieldIn line)) refl (pairOf
       where
         never : true ≡ false → ⊥
         never f = let w : _≡_ {A = ℕ} 0 1 = cc in omega arith
-    go (Number x) p Bad q e = let z : _≡_ {A = ℕ} 0 1 = cc in absurd (omega arith)
-    go Malformed p r q e = let z : _≡_ {A = ℕ} 0 1 = cc in absurd (omega arith)
+    go (Number x) p Bad q e = clash (cc)
+    go Malformed p r q e = clash (cc)
 
 only : (claims : Bool) (line : List ℕ) (age exposure count : ℕ) → rowOf claims line ≡ Fields age exposure count
     → InRange claims age exposure count × (line ≡ rowText claims age exposure count)

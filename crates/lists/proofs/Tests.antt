@@ -9,6 +9,7 @@ use lib.Dec.{eqb, ltb}
 use lib.ListN.{length, take, drop, length-drop, drop-of-length-le}
 use lib.Seq.{take-all}
 use Rattle.numbers.specs.Choice.{if_then_else_}
+use Rattle.numbers.proofs.Clash.{clash}
 use Rattle.decimals.specs.declared.reading.Whole.{Whole}
 use Rattle.decimals.specs.declared.reading.Whole.the-variants.{Number, Malformed}
 use Rattle.decimals.specs.Whole.{largest, wholeOf}
@@ -85,8 +86,8 @@ pair-small line age exposure count e = go (wholeOf (fieldIn line)) refl (wholeOf
         let a = wholes-written-back (fieldIn line) x p .1 in
         let b = wholes-written-back (fieldsAfter line) y q .1 in
         record { age-small = omega arith; exposure-small = omega arith; count-small = omega arith }
-    go (Number x) p Malformed q e = let z : _≡_ {A = ℕ} 0 1 = cc in absurd (omega arith)
-    go Malformed p b q e = let z : _≡_ {A = ℕ} 0 1 = cc in absurd (omega arith)
+    go (Number x) p Malformed q e = clash (cc)
+    go Malformed p b q e = clash (cc)
 
 triple-small : (line : List ℕ) (age exposure count : ℕ) → threeOf (wholeOf (fieldIn line)) (pairOf (fieldsAfter line)) ≡ Fields age exposure count → Small age exposure count
 triple-small line age exposure count e = go (wholeOf (fieldIn line)) refl (pairOf (fieldsAfter line)) refl e
@@ -99,8 +100,8 @@ triple-small line age exposure count e = go (wholeOf (fieldIn line)) refl (pairO
         let a = wholes-written-back (fieldIn line) x p .1 in
         let b = pair-small (fieldsAfter line) y none z q in
         record { age-small = omega arith; exposure-small = omega (arith, b .age-small); count-small = omega (arith, b .count-small) }
-    go (Number x) p Bad q e = let z : _≡_ {A = ℕ} 0 1 = cc in absurd (omega arith)
-    go Malformed p r q e = let z : _≡_ {A = ℕ} 0 1 = cc in absurd (omega arith)
+    go (Number x) p Bad q e = clash (cc)
+    go Malformed p r q e = clash (cc)
 
 row-small : (claims : Bool) (line : List ℕ) (age exposure count : ℕ) → rowOf claims line ≡ Fields age exposure count → Small age exposure count
 row-small true line age exposure count e = triple-small line age exposure count e
@@ -118,8 +119,8 @@ line-good claims k before line age exposure count e = go (ltb k mostLines) refl 
   where
     last : (a x y : ℕ) → ltb k mostLines ≡ true → rowOf claims line ≡ Fields a x y → (t u : Bool) → inSequence k before a ≡ t → (claims && ltb x y) ≡ u
         → (if t then (if u then Fault 18 else Entry a x y) else Fault 17) ≡ Entry age exposure count → Good claims k before line age exposure count
-    last a x y h r false u p q e = let z : _≡_ {A = ℕ} 0 1 = cc in absurd (omega arith)
-    last a x y h r true true p q e = let z : _≡_ {A = ℕ} 0 1 = cc in absurd (omega arith)
+    last a x y h r false u p q e = clash (cc)
+    last a x y h r true true p q e = clash (cc)
     last a x y h r true false p q e =
         let first : a ≡ age = cc in
         let second : x ≡ exposure = cc in
@@ -134,8 +135,8 @@ line-good claims k before line age exposure count e = go (ltb k mostLines) refl 
     go : (t : Bool) → ltb k mostLines ≡ t → (r : Row) → rowOf claims line ≡ r → (if t then tested claims k before r else Fault 16) ≡ Entry age exposure count
         → Good claims k before line age exposure count
     go true h (Fields a x y) r e = last a x y h r (inSequence k before a) (claims && ltb x y) refl refl e
-    go true h Bad r e = let z : _≡_ {A = ℕ} 0 1 = cc in absurd (omega arith)
-    go false h row r e = let z : _≡_ {A = ℕ} 0 1 = cc in absurd (omega arith)
+    go true h Bad r e = clash (cc)
+    go false h row r e = clash (cc)
 
 pub line-small : (claims : Bool) (k before : ℕ) (line : List ℕ) (age exposure count : ℕ) → lineOf claims k before line ≡ Entry age exposure count → Small age exposure count
 line-small claims k before line age exposure count e = row-small claims line age exposure count (line-good claims k before line age exposure count e .fields)

@@ -1,24 +1,19 @@
--- A whole list: how many lines it has, and what the two readers make of it.
+-- A whole list: how many lines it has, and that the scratch it is read into holds them.
 use Prim.Native.Nat.{ℕ, _+_, _-_, _≤_}
-use mathlib.Core.Path.{_≡_, refl, sym, ap, ap₂, _∙_}
+use mathlib.Core.Path.{_≡_, refl, sym, ap, _∙_}
 use mathlib.Core.Bool.{Bool, true, false}
 use mathlib.Core.List.{List, [], _∷_}
 use native.Mathlib.Omega.{arith}
-use borrow.Author.Tests.{eq-eqb, ne-eqb}
 use lib.ListN.{length, take, drop, replicate, length-replicate}
 use lib.Seq.{sets, sets-eq, length-sets, take-at}
 use Rattle.numbers.specs.Choice.{if_then_else_}
+use Rattle.numbers.proofs.Clash.{clash}
 use Rattle.packs.specs.declared.Outcome.{Outcome}
 use Rattle.packs.specs.declared.Outcome.the-variants.{Done, Refused}
-use Rattle.packs.specs.Writing.{refused, roomed}
-use Rattle.jobs.specs.Packs.{writeJob}
-use Rattle.lists.specs.declared.imports.Given.{Given}
 use Rattle.lists.specs.declared.lines.Line.{Line}
 use Rattle.lists.specs.declared.lines.Line.the-variants.{Entry, Fault}
 use Rattle.lists.specs.Cut.{linesOf, sameBytes}
 use Rattle.lists.specs.Lines.{mostLines, headerOf, lineOf, Listed, endsWith, onLine, listedFrom, listedOf, Lists}
-use Rattle.lists.specs.Imports.{wordsOf, onListed, importOf}
-use Rattle.lists.specs.Exports.{noRates, handedRates, ratesOf}
 use Rattle.lists.proofs.Tests.{line-good}
 use Rattle.lists.proofs.Walks.{listed-step, listed-end}
 
@@ -57,17 +52,16 @@ listed-count claims k before (line ∷ lines) n h e = go (lineOf claims k before
         let step : listedFrom claims k before (line ∷ lines) ≡ endsWith (Refused number (k + 2)) =
         listed-step claims k before line lines ∙ ap (λ (l : Line). onLine l (k + 2) (λ a. listedFrom claims (k + 1) a lines)) q in
         let stops : Refused number (k + 2) ≡ Done n = sym (ap (λ (x : Listed). x .outcome) step) ∙ e in
-        let z : _≡_ {A = ℕ} 0 1 = cc in
-        absurd (omega arith)
+        clash (cc)
 
 pub list-count : (claims : Bool) (lines : List (List ℕ)) (n : ℕ) → listedOf claims lines .outcome ≡ Done n → Counted 0 (listedOf claims lines) n
-list-count claims [] n e = let z : _≡_ {A = ℕ} 0 1 = cc in absurd (omega arith)
+list-count claims [] n e = clash (cc)
 list-count claims (header ∷ lines) n e = go (sameBytes header (headerOf claims)) e
   where
     go : (t : Bool) → (if t then listedFrom claims 0 0 lines else endsWith (Refused 16 1)) .outcome ≡ Done n
         → Counted 0 (if t then listedFrom claims 0 0 lines else endsWith (Refused 16 1)) n
     go true e = listed-count claims 0 0 lines n (omega arith) e
-    go false e = let z : _≡_ {A = ℕ} 0 1 = cc in absurd (omega arith)
+    go false e = clash (cc)
 
 -- ---- scratch of 120 words
 kept-part : (values : List ℕ) {n : ℕ} {stored : List ℕ} → length values ≡ n → n ≤ 120 → stored ≡ sets (replicate 120 0) 0 values → take n stored ≡ values
@@ -83,7 +77,7 @@ module _ (claims : Bool) (text : List ℕ) {o : Outcome} {n : ℕ} {es ds : List
   listed : Listed
   listed = listedOf claims (linesOf text)
 
-  done : listedOf claims (linesOf text) .outcome ≡ Done n
+  pub done : listedOf claims (linesOf text) .outcome ≡ Done n
   done = sym (L .ends) ∙ d
 
   count : Counted 0 (listedOf claims (linesOf text)) n
@@ -103,33 +97,3 @@ module _ (claims : Bool) (text : List ℕ) {o : Outcome} {n : ℕ} {es ds : List
 
   pub counts-read : take n ds ≡ listedOf claims (linesOf text) .counts
   counts-read = kept-part (listedOf claims (linesOf text) .counts) (omega (arith, count .counts)) (count .few) (L .counted)
-
--- ---- the import
-pub divisor-none : (g : Given) (room : ℕ) (text : List ℕ) → g .divisor ≡ 0 → refused 19 0 ≡ importOf g room text
-unfolding importOf
-divisor-none g room text h = rw (eq-eqb (g .divisor) 0 h)
-
-pub importing : (g : Given) (room : ℕ) (text : List ℕ) → (g .divisor ≡ 0 → ⊥) → {o : Outcome} → listedOf true (linesOf text) .outcome ≡ o
-    → onListed g room (listedOf true (linesOf text)) o ≡ importOf g room text
-unfolding importOf
-importing g room text h e = rw (ne-eqb (g .divisor) 0 h) (ap (onListed g room (listedOf true (linesOf text))) (sym e))
-
-pub import-done : (g : Given) (room : ℕ) (text : List ℕ) → (g .divisor ≡ 0 → ⊥) → {o : Outcome} {n : ℕ} {es ds : List ℕ}
-    → Lists (listedOf true (linesOf text)) (replicate 120 0) (replicate 120 0) o es ds → o ≡ Done n
-    → roomed room (writeJob (wordsOf g (take n es) (take n ds))) ≡ importOf g room text
-import-done g room text h L d =
-    ap₂ (λ (xs ys : List ℕ). roomed room (writeJob (wordsOf g xs ys))) (exposures-read true text L d) (counts-read true text L d)
-    ∙ importing g room text h (done true text L d)
-
-pub import-refused : (g : Given) (room : ℕ) (text : List ℕ) → (g .divisor ≡ 0 → ⊥) → {o : Outcome} {number line : ℕ} {es ds : List ℕ}
-    → Lists (listedOf true (linesOf text)) (replicate 120 0) (replicate 120 0) o es ds → o ≡ Refused number line → refused number line ≡ importOf g room text
-import-refused g room text h L d = importing g room text h (sym (L .ends) ∙ d)
-
--- ---- an export read back
-pub rates-done : (room : ℕ) (text : List ℕ) {o : Outcome} {n : ℕ} {es ds : List ℕ}
-    → Lists (listedOf false (linesOf text)) (replicate 120 0) (replicate 120 0) o es ds → o ≡ Done n → handedRates room (take n ds) (Done n) ≡ ratesOf room text
-rates-done room text L d = ap₂ (handedRates room) (counts-read false text L d) (sym (done false text L d))
-
-pub rates-refused : (room : ℕ) (text : List ℕ) {o : Outcome} {number line : ℕ} {es ds : List ℕ}
-    → Lists (listedOf false (linesOf text)) (replicate 120 0) (replicate 120 0) o es ds → o ≡ Refused number line → noRates number line ≡ ratesOf room text
-rates-refused room text L d = ap (handedRates room (listedOf false (linesOf text) .counts)) (sym (sym (L .ends) ∙ d))

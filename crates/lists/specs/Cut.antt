@@ -11,6 +11,10 @@ unfoldable pub lengthTo : (List ℕ → Bool) → List ℕ → ℕ
 lengthTo test [] = 0
 lengthTo test (b ∷ s) = if test (b ∷ s) then 0 else suc (lengthTo test s)
 
+-- CR LF
+abbrev pub lineEnd : List ℕ
+lineEnd = 13 ∷ 10 ∷ []
+
 -- CR LF, or a comma, comes next.
 abbrev pub isBreak : List ℕ → Bool
 isBreak s = eqb (getD s 0 0) 13 && eqb (getD s 1 0) 10

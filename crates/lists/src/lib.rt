@@ -1,6 +1,4 @@
-// Comma lists (document 02, W-201): claims lists that become job packs, and tables that go out as lists and are read back.
+// Comma lists (document 02, W-201), read: lines and fields, and what is wrong with the first faulty line.
 mod cut;
-pub mod exports;
-pub mod imports;
-mod lines;
-mod reading;
+pub mod lines;
+pub mod reading;

@@ -21,7 +21,8 @@ pub enum Line {
     Fault(u64),
 }
 
-const MOST_LINES: usize = 120;
+// The most lines of data.
+pub const MOST_LINES: usize = 120;
 
 fn two_of(age: Whole, count: Whole) -> Row
     ensures { λ r. ⌜ r ≡ twoOf age count ⌝ }

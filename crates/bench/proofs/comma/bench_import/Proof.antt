@@ -2,7 +2,7 @@
 use mathlib.Core.Path.{ap, _∙_}
 use lib.ListN.{length}
 use lib.Seq.{sets}
-use Rattle.lists.specs.Imports.{importOf}
+use Rattle.imports.specs.Imports.{importOf}
 use Rattle.bench.specs.Calls.{givenOf, outcomeOf}
 use Rattle.bench.proofs.Endings.{without-room, with-room}
 use Rattle.bench.proofs.Listed.{import-small}

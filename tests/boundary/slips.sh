@@ -11,7 +11,7 @@ need gcc gcc
 CALLS=60000 DRAFTS=4000
 out=target/tests/slips
 flags="-std=c99 -O1 -ffp-contract=off"
-parts="packs measure terms house grid shelf calls"
+parts="packs measure terms house grid shelf lists calls"
 passed=0 failed=0
 good() { passed=$((passed + 1)); }
 bad() { failed=$((failed + 1)); echo "FAILED  $1"; }

@@ -1,5 +1,5 @@
-/* The nine calls (document 01, "Numbers Mr Aldous reads"; document 02, terms W-202, fetch W-203, counts of slots W-209): the order of the refusals, and
- * what a call returns and writes. */
+/* The twelve calls (document 01, "Numbers Mr Aldous reads"; document 02, comma lists W-201, terms W-202, fetch W-203, counts of slots W-209): the order
+ * of the refusals, and what a call returns and writes. */
 #include "parts.h"
 #include "twin.h"
 
@@ -205,4 +205,52 @@ uint64_t twin_write(const int64_t *words, size_t word_count, uint8_t *out, size_
         return told(twin_plain(13, needed), answer);
     twin_put_job(&read, out);
     return told(twin_plain(0, needed), answer);
+}
+
+/* The pack's own refusals, and that for room, are those that the writer gives for the job's words. */
+uint64_t twin_import(const uint8_t *text, size_t text_bytes, uint64_t divisor, uint64_t society, uint64_t job, uint64_t order,
+                     uint64_t constant, uint64_t tolerance, uint64_t floor, uint64_t ceiling,
+                     uint8_t *out, size_t out_bytes, uint64_t *answer, size_t answer_words)
+{
+    const struct twin_claims_job given = {divisor, society, job, order, constant, tolerance, floor, ceiling};
+    struct twin_list list;
+    int64_t words[MOST_CLAIMS_WORDS];
+    if (answer_words != ANSWER_WORDS)
+        return wrong_answer_slice();
+    struct twin_answer a = divisor == 0 ? twin_plain(19, 0) : twin_read_claims(text, text_bytes, &list);
+    if (a.number != 0)
+        return told(a, answer);
+    size_t count = twin_claims_words(&list, &given, words);
+    return twin_write(words, count, out, out_bytes, answer, answer_words);
+}
+
+uint64_t twin_export(const uint32_t *rates, size_t rate_count, uint64_t first_age,
+                     uint8_t *out, size_t out_bytes, uint64_t *answer, size_t answer_words)
+{
+    uint8_t list[MOST_TABLE_BYTES];
+    if (answer_words != ANSWER_WORDS)
+        return wrong_answer_slice();
+    struct twin_answer a = twin_can_list(rates, rate_count, first_age);
+    if (a.number != 0)
+        return told(a, answer);
+    size_t needed = twin_put_list(rates, rate_count, first_age, list);
+    if (out_bytes < needed)
+        return told(twin_plain(13, needed), answer);
+    memcpy(out, list, needed);
+    return told(twin_plain(0, needed), answer);
+}
+
+uint64_t twin_rates(const uint8_t *text, size_t text_bytes, uint32_t *out, size_t out_words, uint64_t *answer, size_t answer_words)
+{
+    struct twin_list list;
+    if (answer_words != ANSWER_WORDS)
+        return wrong_answer_slice();
+    struct twin_answer a = twin_read_table(text, text_bytes, &list);
+    if (a.number != 0)
+        return told(a, answer);
+    if (out_words < list.lines)
+        return told(twin_plain(13, list.lines), answer);
+    for (size_t i = 0; i < list.lines; i++)
+        out[i] = twin_listed_rate(&list, i);
+    return told(twin_plain(0, list.lines), answer);
 }

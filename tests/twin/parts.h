@@ -54,6 +54,28 @@ size_t twin_job_words(const struct twin_job *job);
 void twin_put_words(const struct twin_job *job, int64_t *words);
 void twin_put_job(const struct twin_job *job, uint8_t *out);
 
+/* Comma lists (document 02, W-201): a line's numbers in a row, age first; a claims list has three of them, a table two. */
+enum { MOST_FIELDS = 3, MOST_CLAIMS_WORDS = 7 + 4 * MOST_CELLS, MOST_TABLE_BYTES = 10 + 23 * MOST_CELLS };
+
+struct twin_list {
+    size_t lines;
+    uint64_t row[MOST_CELLS][MOST_FIELDS];
+};
+
+/* What an import is given beside its list, as it is given. */
+struct twin_claims_job {
+    uint64_t divisor, society, number, order, constant, tolerance, floor, ceiling;
+};
+
+/* Each reader answers number 0, or refusal 16, 17 or 18, of a table 2 as well. twin_claims_words gives the words of the job, as the writer takes them,
+ * and their count. twin_can_list says whether a table can be listed: 0, or refusal 2; twin_put_list then writes it and answers its bytes. */
+struct twin_answer twin_read_claims(const uint8_t *text, size_t bytes, struct twin_list *list);
+struct twin_answer twin_read_table(const uint8_t *text, size_t bytes, struct twin_list *list);
+uint32_t twin_listed_rate(const struct twin_list *list, size_t line);
+size_t twin_claims_words(const struct twin_list *list, const struct twin_claims_job *job, int64_t *words);
+struct twin_answer twin_can_list(const uint32_t *rates, size_t count, uint64_t first_age);
+size_t twin_put_list(const uint32_t *rates, size_t count, uint64_t first_age, uint8_t *out);
+
 /* What supplied a term of the gap, and the words that the list of terms has for each place: term, residual, side (document 02, W-202). */
 enum twin_side { BY_BOX = 0, BY_WEIGHT = 1, BY_LINK = 2 };
 enum { TERM_WORDS = 3 };

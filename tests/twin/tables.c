@@ -1,5 +1,5 @@
 /* The twin against document 01 itself: its tables worked by hand, its forms of numbers, and the checking program's lines. Then grids, fetches,
- * counts of slots, and terms of the gap. */
+ * counts of slots, terms of the gap, and comma lists. */
 #include "tables.h"
 #include "twin.h"
 
@@ -127,6 +127,7 @@ int main(void)
     fetched_tables();
     counts_tables();
     largest_tables();
+    comma_tables();
     printf("%d passed, %d failed\n", passed, failed);
     return failed == 0 ? 0 : 1;
 }

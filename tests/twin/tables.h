@@ -1,4 +1,5 @@
-/* Tests of the twin by itself: one of them, counted, those of grids, those of a fetch that checks, those of counts of slots, and those of terms. */
+/* Tests of the twin by itself: one of them, counted, those of grids, those of a fetch that checks, those of counts of slots, those of terms, and
+ * those of comma lists. */
 #ifndef TWIN_TABLES_H
 #define TWIN_TABLES_H
 
@@ -8,5 +9,6 @@ void select_tables(void);
 void fetched_tables(void);
 void counts_tables(void);
 void largest_tables(void);
+void comma_tables(void);
 
 #endif

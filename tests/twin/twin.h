@@ -1,4 +1,4 @@
-/* The twin: the bench's nine calls once more in plain C, written from the documents alone, to compare the bench with.
+/* The twin: the bench's twelve calls once more in plain C, written from the documents alone, to compare the bench with.
  * Each call takes, answers and writes what include/bench.h says of the bench's call of the same name. */
 #ifndef TWIN_H
 #define TWIN_H
@@ -22,6 +22,13 @@ uint64_t twin_clear(uint32_t *shelf, size_t shelf_words, const uint32_t *counts,
 uint64_t twin_read(const uint8_t *job, size_t job_bytes, int64_t *words, size_t word_count,
                    uint64_t *answer, size_t answer_words);
 uint64_t twin_write(const int64_t *words, size_t word_count, uint8_t *out, size_t out_bytes,
+                    uint64_t *answer, size_t answer_words);
+uint64_t twin_import(const uint8_t *text, size_t text_bytes, uint64_t divisor, uint64_t society, uint64_t job, uint64_t order,
+                     uint64_t constant, uint64_t tolerance, uint64_t floor, uint64_t ceiling,
+                     uint8_t *out, size_t out_bytes, uint64_t *answer, size_t answer_words);
+uint64_t twin_export(const uint32_t *rates, size_t rate_count, uint64_t first_age,
+                     uint8_t *out, size_t out_bytes, uint64_t *answer, size_t answer_words);
+uint64_t twin_rates(const uint8_t *text, size_t text_bytes, uint32_t *out, size_t out_words,
                     uint64_t *answer, size_t answer_words);
 
 /* The line that the checking program prints for an input. `out` has room for TWIN_LINE_BYTES; the answer is the line's length. */

@@ -7,13 +7,15 @@
 #include <stdio.h>
 #include <string.h>
 
-const char *const call_names[FUNCTIONS] = {"check", "terms", "propose", "keep", "fetch", "forget", "clear", "read", "write"};
+const char *const call_names[FUNCTIONS] = {"check", "terms", "propose", "keep", "fetch", "forget", "clear", "read", "write",
+                                              "import", "export", "rates"};
 
 static const uint64_t NOT_RETURNED = UINT64_MAX;
 
 static uint64_t on_bench(const struct call *c, void *const *p)
 {
     const struct slice *s = c->slice;
+    const uint64_t *n = c->number;
     switch (c->function) {
     case CHECK: return bench_check(p[0], s[0].count, p[1], s[1].count, p[2], s[2].count);
     case TERMS: return bench_terms(p[0], s[0].count, p[1], s[1].count, p[2], s[2].count, p[3], s[3].count);
@@ -23,13 +25,19 @@ static uint64_t on_bench(const struct call *c, void *const *p)
     case FORGET: return bench_forget(p[0], s[0].count, c->society, c->job, p[1], s[1].count);
     case CLEAR: return bench_clear(p[0], s[0].count, p[1], p[2], s[2].count);
     case READ: return bench_read(p[0], s[0].count, p[1], s[1].count, p[2], s[2].count);
-    default: return bench_write(p[0], s[0].count, p[1], s[1].count, p[2], s[2].count);
+    case WRITE: return bench_write(p[0], s[0].count, p[1], s[1].count, p[2], s[2].count);
+    case IMPORT:
+        return bench_import(p[0], s[0].count, n[DIVISOR], n[SOCIETY], n[JOB], n[ORDER], n[CONSTANT], n[TOLERANCE], n[FLOOR], n[CEILING],
+                             p[1], s[1].count, p[2], s[2].count);
+    case EXPORT: return bench_export(p[0], s[0].count, c->first_age, p[1], s[1].count, p[2], s[2].count);
+    default: return bench_rates(p[0], s[0].count, p[1], s[1].count, p[2], s[2].count);
     }
 }
 
 static uint64_t on_twin(const struct call *c, void *const *p)
 {
     const struct slice *s = c->slice;
+    const uint64_t *n = c->number;
     switch (c->function) {
     case CHECK: return twin_check(p[0], s[0].count, p[1], s[1].count, p[2], s[2].count);
     case TERMS: return twin_terms(p[0], s[0].count, p[1], s[1].count, p[2], s[2].count, p[3], s[3].count);
@@ -39,7 +47,12 @@ static uint64_t on_twin(const struct call *c, void *const *p)
     case FORGET: return twin_forget(p[0], s[0].count, c->society, c->job, p[1], s[1].count);
     case CLEAR: return twin_clear(p[0], s[0].count, p[1], p[2], s[2].count);
     case READ: return twin_read(p[0], s[0].count, p[1], s[1].count, p[2], s[2].count);
-    default: return twin_write(p[0], s[0].count, p[1], s[1].count, p[2], s[2].count);
+    case WRITE: return twin_write(p[0], s[0].count, p[1], s[1].count, p[2], s[2].count);
+    case IMPORT:
+        return twin_import(p[0], s[0].count, n[DIVISOR], n[SOCIETY], n[JOB], n[ORDER], n[CONSTANT], n[TOLERANCE], n[FLOOR], n[CEILING],
+                            p[1], s[1].count, p[2], s[2].count);
+    case EXPORT: return twin_export(p[0], s[0].count, c->first_age, p[1], s[1].count, p[2], s[2].count);
+    default: return twin_rates(p[0], s[0].count, p[1], s[1].count, p[2], s[2].count);
     }
 }
 
@@ -132,10 +145,22 @@ static void print_answer(const struct call *c, int side, uint64_t said)
     printf("\n");
 }
 
+static void print_numbers(const uint64_t *number)
+{
+    printf("  divisor, society, job, order, constant, tolerance, floor, ceiling:");
+    for (int i = 0; i < IMPORT_NUMBERS; i++)
+        printf(" %" PRIu64, number[i]);
+    printf("\n");
+}
+
 void call_report(const struct call *c, const uint64_t said[SIDES])
 {
     bool has_shelf = c->function >= KEEP && c->function <= CLEAR;
     printf("  %s, society %" PRIu32 ", job %" PRIu32 "\n", call_names[c->function], c->society, c->job);
+    if (c->function == IMPORT)
+        print_numbers(c->number);
+    if (c->function == EXPORT)
+        printf("  first age %" PRIu64 "\n", c->first_age);
     for (int side = 0; side < SIDES; side++)
         print_answer(c, side, said[side]);
     if (has_shelf)

@@ -47,6 +47,9 @@ static uint64_t possible(int shape, int function)
     case FETCH: return check | bit(12) | answer | shelf | room;
     case FORGET: return grid ? 0 : bit(0) | bit(11) | bit(12) | answer | shelf;
     case CLEAR: return grid ? 0 : bit(0) | answer | shelf;
+    case IMPORT: return grid ? 0 : bit(0) | bit(2) | bit(3) | bit(4) | bit(16) | bit(17) | bit(18) | bit(19) | answer | room;
+    case EXPORT: return grid ? 0 : bit(0) | bit(2) | answer | room;
+    case RATES: return grid ? 0 : bit(0) | bit(2) | bit(16) | bit(17) | answer | room;
     default: return pack | answer | room;
     }
 }

@@ -2,6 +2,7 @@
 #include "scenes.h"
 #include "../twin/twin.h"
 #include "corrections.h"
+#include "lists.h"
 #include "rows.h"
 #include "shapes.h"
 #include "shelves.h"
@@ -12,11 +13,14 @@
 static struct draft drawn, asked, broken;
 static const struct draft *draft = &drawn;
 static struct numbers list;
-static struct bytes job_pack, proposal_pack;
+static struct bytes job_pack, proposal_pack, text;
 static struct words job_words;
 static uint32_t shelf[SHELF_WORDS + 8];
 static uint64_t noise[8192];
 static bool begun;
+
+/* Room for a job made of a list, and for a list made of a table. */
+enum { MOST_LIST_ROOM = 4096 };
 
 /* The counts of a clearing, and the shelf's own row while one that is not allowed stands in its place for a call. */
 static uint32_t counts[SOCIETIES], own_row[ROW_WORDS];
@@ -37,11 +41,11 @@ static void lend(struct call *c, const void *content, size_t count, size_t width
     c->slice[c->slices++] = slice;
 }
 
-/* Clear, which is seldom called, gets a wrong answer slice and a wrong shelf more often. */
+/* Clear, which is seldom called, gets a wrong answer slice and a wrong shelf more often; the calls on lists a wrong answer slice. */
 static void lend_answer(struct random *r, struct call *c)
 {
     static const size_t odd[] = {0, 3, 5, 8};
-    size_t count = random_chance(r, c->function == CLEAR ? 15 : 3) ? odd[random_below(r, 4)] : ANSWER_WORDS;
+    size_t count = random_chance(r, c->function == CLEAR ? 15 : c->function >= IMPORT ? 6 : 3) ? odd[random_below(r, 4)] : ANSWER_WORDS;
     lend(c, some_noise(r), count, sizeof(uint64_t), true);
 }
 
@@ -239,6 +243,33 @@ static void pack_call(struct random *r, struct call *c)
     }
 }
 
+/* An import of a claims list, an export, or a table read back. They know no draft and no shelf. */
+static void list_call(struct random *r, struct call *c)
+{
+    static uint32_t rates[MOST_RATES];
+    static uint8_t room[MOST_LIST_ROOM];
+    uint32_t values[MOST_CELLS];
+    uint64_t answer[ANSWER_WORDS], *n = c->number, said;
+    if (c->function == IMPORT) {
+        list_numbers(r, n);
+        list_claims(r, n[DIVISOR], &text);
+        lend(c, text.at, text.count, 1, false);
+        said = twin_import(text.at, text.count, n[DIVISOR], n[SOCIETY], n[JOB], n[ORDER], n[CONSTANT], n[TOLERANCE], n[FLOOR], n[CEILING],
+                           room, sizeof room, answer, ANSWER_WORDS);
+        lend_output(r, c, written(said), 1339, 1);
+    } else if (c->function == EXPORT) {
+        size_t count = list_rates(r, rates, &c->first_age);
+        lend(c, rates, count, sizeof *rates, false);
+        said = twin_export(rates, count, c->first_age, room, sizeof room, answer, ANSWER_WORDS);
+        lend_output(r, c, written(said), 2651, 1);
+    } else {
+        list_table(r, &text);
+        lend(c, text.at, text.count, 1, false);
+        said = twin_rates(text.at, text.count, values, MOST_CELLS, answer, ANSWER_WORDS);
+        lend_output(r, c, written(said), MOST_CELLS, sizeof *values);
+    }
+}
+
 /* Keep, fetch, forget and clear. */
 static void shelf_call(struct random *r, struct call *c)
 {
@@ -288,9 +319,10 @@ static void next_shelf(struct random *r)
 static enum function next_function(struct random *r)
 {
     static const struct { enum function function; int share; } shares[] = {
-        {CHECK, 150}, {TERMS, 100}, {PROPOSE, 135}, {KEEP, 215}, {FETCH, 180}, {FORGET, 38}, {CLEAR, 10}, {READ, 74}, {WRITE, 98},
+        {CHECK, 150}, {TERMS, 100}, {PROPOSE, 135}, {KEEP, 215}, {FETCH, 180}, {FORGET, 42}, {CLEAR, 22}, {READ, 74}, {WRITE, 98},
+        {IMPORT, 80}, {EXPORT, 25}, {RATES, 40},
     };
-    int64_t share = random_below(r, 1000);
+    int64_t share = random_below(r, 1161);
     size_t f = 0;
     for (; share >= shares[f].share; f++)
         share -= shares[f].share;
@@ -308,6 +340,8 @@ void scene_call(struct random *r, struct call *c)
     c->function = next_function(r);
     if (c->function >= KEEP && c->function <= CLEAR)
         shelf_call(r, c);
+    else if (c->function >= IMPORT)
+        list_call(r, c);
     else
         pack_call(r, c);
     lend_answer(r, c);

@@ -18,7 +18,7 @@ bad() { failed=$((failed + 1)); echo "FAILED  $1"; }
 
 # The parts of both tests, and of each alone; their objects go to folders of these names.
 both="drafts ties shapes extremes grids numbers"
-differential="differential reached nines scenes calls corrections shelves rows lent"
+differential="differential reached nines scenes calls corrections shelves rows lists lent"
 reversed="reversed met turned"
 
 rm -rf "$out"

@@ -5,8 +5,8 @@
 #include <stdio.h>
 #include <string.h>
 
-/* The list of terms came with version 5. */
-#if BENCH_VERSION < 5
+/* Comma lists came with version 6. */
+#if BENCH_VERSION < 6
 #error "include/bench.h is older than this caller"
 #endif
 
@@ -798,6 +798,239 @@ static void length_refusals(void)
     expect_answer(bench_write(words, 1, out, 28, answer, BENCH_ANSWER_WORDS), BENCH_NOT_ALLOWED, 0, 0, 0, "society -1");
 }
 
+/* What a society sends: crude rates 7,000 and 1,500 with weights 10 and 20, and an age without exposure. The portal gives divisor 100, society 3, job 7,
+ * order 2, constant 1, tolerance 0 and the box 0..100,000. */
+#define CLAIMS_HEADER "age,exposure,deaths\r\n"
+#define TABLE_HEADER "age,rate\r\n"
+static const char CLAIMS[] = CLAIMS_HEADER "40,1000,7\r\n41,2000,3\r\n42,0,0\r\n";
+static const uint8_t CLAIMS_PACK[] = {3, 7, 3, 2, 1, 0, 216, 54, 10, 0, 160, 141, 6, 220, 11, 20, 0, 160, 141, 6, 0, 0, 0, 160, 141, 6, 0};
+
+/* The numbers of an import in their order. */
+struct given {
+    uint64_t divisor, society, job, order, constant, tolerance, floor, ceiling;
+};
+static const struct given GIVEN = {100, 3, 7, 2, 1, 0, 0, 100000};
+
+static uint64_t import_given(const char *text, size_t bytes, const struct given *g, uint8_t *out, size_t room)
+{
+    return bench_import((const uint8_t *)text, bytes, g->divisor, g->society, g->job, g->order, g->constant, g->tolerance, g->floor, g->ceiling,
+                        out, room, answer, BENCH_ANSWER_WORDS);
+}
+
+static uint64_t import(const char *text, uint8_t *out, size_t room)
+{
+    return import_given(text, strlen(text), &GIVEN, out, room);
+}
+
+static uint64_t export_from(uint64_t first_age, const uint32_t *table, size_t count, char *out, size_t room)
+{
+    return bench_export(table, count, first_age, (uint8_t *)out, room, answer, BENCH_ANSWER_WORDS);
+}
+
+static uint64_t rates_of(const char *text, size_t bytes, uint32_t *out, size_t room)
+{
+    return bench_rates((const uint8_t *)text, bytes, out, room, answer, BENCH_ANSWER_WORDS);
+}
+
+/* Tolerance 10^15, so that whatever the house proposes for the list is accepted. */
+static void list_to_list(void)
+{
+    const struct given tolerant = {100, 3, 7, 2, 1, 1000000000000000, 0, 100000};
+    uint8_t job[BENCH_MOST_IMPORT_BYTES], proposal[BENCH_MOST_HOUSE_BYTES];
+    uint32_t values[BENCH_MOST_VALUES], again[BENCH_MOST_VALUES];
+    char list[BENCH_MOST_EXPORT_BYTES];
+    size_t job_bytes = (size_t)BENCH_PLACE(import_given(CLAIMS, sizeof CLAIMS - 1, &tolerant, job, sizeof job));
+    expect(answer[0] == BENCH_DONE, "a claims list becomes a job");
+    size_t bytes = (size_t)BENCH_PLACE(bench_propose(job, job_bytes, proposal, sizeof proposal, answer, BENCH_ANSWER_WORDS));
+    expect(answer[0] == BENCH_DONE, "which gets a proposal");
+    clear();
+    expect(check(job, job_bytes, proposal, bytes) == BENCH_DONE, "which the check accepts");
+    expect(keep(job, job_bytes, proposal, bytes) == BENCH_DONE, "and the shelf keeps");
+    expect(BENCH_PLACE(fetch(job, job_bytes, values, BENCH_MOST_VALUES)) == 3, "and gives back");
+    size_t length = (size_t)BENCH_PLACE(export_from(40, values, 3, list, sizeof list));
+    expect(answer[0] == BENCH_DONE && memcmp(list, TABLE_HEADER "40,", 13) == 0, "it goes out as a list from age 40");
+    expect_answer(rates_of(list, length, again, BENCH_MOST_VALUES), BENCH_DONE, 3, 0, 0, "which is read back");
+    expect(memcmp(values, again, 3 * sizeof *values) == 0, "as the same values");
+}
+
+static void imports(void)
+{
+    uint8_t out[64];
+    memset(out, 0xEE, sizeof out);
+    expect_answer(import(CLAIMS, out, sizeof CLAIMS_PACK - 1), BENCH_WRONG_LENGTH, sizeof CLAIMS_PACK, 0, 0, "import into one byte less");
+    expect_answer(import(CLAIMS, out, 0), BENCH_WRONG_LENGTH, sizeof CLAIMS_PACK, 0, 0, "import into no bytes");
+    expect(out[0] == 0xEE, "a refused import writes nothing");
+    expect_answer(import(CLAIMS, out, sizeof CLAIMS_PACK), BENCH_DONE, sizeof CLAIMS_PACK, 0, 0, "import into as many bytes");
+    expect(memcmp(out, CLAIMS_PACK, sizeof CLAIMS_PACK) == 0 && out[sizeof CLAIMS_PACK] == 0xEE, "the pack and no more");
+    uint64_t said = import_given(CLAIMS, sizeof CLAIMS - 3, &GIVEN, out, sizeof out);
+    expect_answer(said, BENCH_DONE, sizeof CLAIMS_PACK, 0, 0, "import without the last CR LF");
+    expect(memcmp(out, CLAIMS_PACK, sizeof CLAIMS_PACK) == 0 && out[sizeof CLAIMS_PACK] == 0xEE, "the same pack");
+    memset(answer, 0xEE, sizeof answer);
+    said = bench_import((const uint8_t *)CLAIMS, 0, 0, 8, 0, 5, 0, 0, 1, 0, out, 0, answer, 3);
+    expect(said == 32 * 4 + 13 && (answer[0] & 0xFF) == 0xEE, "import with an answer slice of three words, before all else");
+}
+
+/* The number and the place of each refusal of a list, its line. */
+static void list_refusals(void)
+{
+    static const struct { const char *what, *text; uint64_t number, place; } cases[] = {
+        {"an empty text", "", BENCH_BAD_LINE, 1},
+        {"a header in capitals", "Age,Exposure,Deaths\r\n40,1000,7\r\n", BENCH_BAD_LINE, 1},
+        {"a header with a blank", "age, exposure,deaths\r\n40,1000,7\r\n", BENCH_BAD_LINE, 1},
+        {"a byte order mark", "\xEF\xBB\xBF" CLAIMS_HEADER "40,1000,7\r\n", BENCH_BAD_LINE, 1},
+        {"lines that end in LF", "age,exposure,deaths\n40,1000,7\n41,2000,3\n", BENCH_BAD_LINE, 1},
+        {"one line that ends in LF", CLAIMS_HEADER "40,1000,7\r\n41,2000,3\n42,0,0\r\n", BENCH_BAD_LINE, 3},
+        {"one line that ends in CR", CLAIMS_HEADER "40,1000,7\r41,2000,3\r\n", BENCH_BAD_LINE, 2},
+        {"a quote", CLAIMS_HEADER "40,\"1000\",7\r\n", BENCH_BAD_LINE, 2},
+        {"a blank", CLAIMS_HEADER "40,1000,7 \r\n", BENCH_BAD_LINE, 2},
+        {"a leading zero", CLAIMS_HEADER "40,1000,07\r\n", BENCH_BAD_LINE, 2},
+        {"a sign", CLAIMS_HEADER "40,1000,-7\r\n", BENCH_BAD_LINE, 2},
+        {"an empty field", CLAIMS_HEADER "40,,7\r\n", BENCH_BAD_LINE, 2},
+        {"two fields", CLAIMS_HEADER "40,1000\r\n", BENCH_BAD_LINE, 2},
+        {"four fields", CLAIMS_HEADER "40,1000,7,0\r\n", BENCH_BAD_LINE, 2},
+        {"10^9 + 1", CLAIMS_HEADER "40,1000000001,7\r\n", BENCH_BAD_LINE, 2},
+        {"2^64 + 1000", CLAIMS_HEADER "40,18446744073709552616,7\r\n", BENCH_BAD_LINE, 2},
+        {"an empty line at the end", CLAIMS_HEADER "40,1000,7\r\n41,2000,3\r\n\r\n", BENCH_BAD_LINE, 4},
+        {"an age twice", CLAIMS_HEADER "40,1000,7\r\n40,2000,3\r\n", BENCH_AGE_NOT_NEXT, 3},
+        {"an age left out", CLAIMS_HEADER "40,1000,7\r\n42,2000,3\r\n", BENCH_AGE_NOT_NEXT, 3},
+        {"deaths above exposure", CLAIMS_HEADER "40,1000,1001\r\n", BENCH_DEATHS_ABOVE_EXPOSURE, 2},
+        {"deaths without exposure", CLAIMS_HEADER "40,1000,7\r\n41,0,1\r\n", BENCH_DEATHS_ABOVE_EXPOSURE, 3},
+        {"16 before 17", CLAIMS_HEADER "40,1000,7\r\n42,2000,03\r\n", BENCH_BAD_LINE, 3},
+        {"17 before 18", CLAIMS_HEADER "40,1000,7\r\n42,2000,2001\r\n", BENCH_AGE_NOT_NEXT, 3},
+        {"a line before the next", CLAIMS_HEADER "40,1000,1001\r\n42,2000,x\r\n", BENCH_DEATHS_ABOVE_EXPOSURE, 2},
+        {"a header alone", CLAIMS_HEADER, BENCH_NOT_ALLOWED, 2},
+        {"one line of data", CLAIMS_HEADER "40,1000,7\r\n", BENCH_NOT_ALLOWED, 2},
+        {"two lines where the order is 2", CLAIMS_HEADER "40,1000,7\r\n41,1000,7\r\n", BENCH_NOT_ALLOWED, 3},
+        {"exposures below the divisor", CLAIMS_HEADER "40,99,7\r\n41,100,7\r\n42,0,0", BENCH_FEW_WEIGHTS, 0},
+    };
+    uint8_t out[1] = {0xEE};
+    for (size_t i = 0; i < sizeof cases / sizeof *cases; i++)
+        expect_answer(import(cases[i].text, out, 0), cases[i].number, cases[i].place, 0, 0, cases[i].what);
+    expect(out[0] == 0xEE, "a refused list writes nothing");
+}
+
+/* Numbers that are not allowed beside the list, each at the offset that it would have in the pack; none is cut. */
+static void given_refusals(void)
+{
+    static const struct { const char *what; struct given given; uint64_t number, place; } cases[] = {
+        {"divisor 0", {0, 8, 7, 5, 0, 0, 1, 0}, BENCH_NO_DIVISOR, 0},
+        {"society 8", {100, 8, 7, 5, 0, 0, 1, 0}, BENCH_NOT_ALLOWED, 0},
+        {"society 2^32 + 3", {100, 4294967299, 7, 2, 1, 0, 0, 1}, BENCH_NOT_ALLOWED, 0},
+        {"job 2^32", {100, 3, 4294967296, 5, 0, 0, 1, 0}, BENCH_NOT_ALLOWED, 1},
+        {"order 5", {100, 3, 7, 5, 0, 0, 1, 0}, BENCH_NOT_ALLOWED, 3},
+        {"order 6", {100, 3, 7, 6, 0, 0, 1, 0}, BENCH_NOT_ALLOWED, 3},
+        {"order 2^64 - 1", {100, 3, 7, UINT64_MAX, 1, 0, 0, 1}, BENCH_NOT_ALLOWED, 3},
+        {"order 3 of three cells", {100, 3, 7, 3, 0, 0, 1, 0}, BENCH_NOT_ALLOWED, 3},
+        {"constant 0", {100, 3, 7, 2, 0, UINT64_MAX, 1, 0}, BENCH_NOT_ALLOWED, 4},
+        {"constant 1,001", {100, 3, 7, 2, 1001, 0, 1, 0}, BENCH_NOT_ALLOWED, 4},
+        {"tolerance 10^15 + 1", {100, 3, 7, 2, 1, 1000000000000001, 1, 0}, BENCH_NOT_ALLOWED, 5},
+        {"floor 1,000,001", {100, 3, 7, 2, 1, 0, 1000001, 0}, BENCH_NOT_ALLOWED, 9},
+        {"ceiling 2^63", {100, 3, 7, 2, 1, 0, 0, 9223372036854775808u}, BENCH_NOT_ALLOWED, 10},
+        {"floor above ceiling", {100, 3, 7, 2, 1, 0, 1, 0}, BENCH_FLOOR_ABOVE_CEILING, 0},
+        {"a divisor above all exposures", {UINT64_MAX, 3, 7, 2, 1, 0, 0, 1}, BENCH_FEW_WEIGHTS, 0},
+    };
+    uint8_t out[1];
+    for (size_t i = 0; i < sizeof cases / sizeof *cases; i++)
+        expect_answer(import_given(CLAIMS, sizeof CLAIMS - 1, &cases[i].given, out, 0), cases[i].number, cases[i].place, 0, 0, cases[i].what);
+    expect_answer(import_given("", 0, &cases[0].given, out, 0), BENCH_NO_DIVISOR, 0, 0, 0, "divisor 0 before an empty text");
+    expect_answer(import_given("", 0, &cases[1].given, out, 0), BENCH_BAD_LINE, 1, 0, 0, "an empty text before society 8");
+}
+
+static void exports(void)
+{
+    const char text[] = TABLE_HEADER "59,7\r\n60,1000000000\r\n";
+    const size_t bytes = sizeof text - 1;
+    const uint32_t table[] = {7, 1000000000};
+    uint32_t above[] = {7, 1000000001}, many[BENCH_MOST_VALUES + 1] = {0};
+    char out[64];
+    memset(out, 'x', sizeof out);
+    expect_answer(export_from(59, table, 2, out, bytes - 1), BENCH_WRONG_LENGTH, bytes, 0, 0, "export into one byte less");
+    expect(out[0] == 'x', "a refused export writes nothing");
+    expect_answer(export_from(59, table, 2, out, sizeof out), BENCH_DONE, bytes, 0, 0, "export");
+    expect(memcmp(out, text, bytes) == 0 && out[bytes] == 'x', "the list and no more");
+    expect_answer(export_from(59, above, 2, out, 0), BENCH_NOT_ALLOWED, 0, 0, 0, "a rate of 10^9 + 1");
+    expect_answer(export_from(59, table, 0, out, 0), BENCH_NOT_ALLOWED, 0, 0, 0, "no rates");
+    expect_answer(export_from(0, many, BENCH_MOST_VALUES + 1, out, 0), BENCH_NOT_ALLOWED, 0, 0, 0, "121 rates");
+    expect_answer(export_from(999999999, table, 2, out, 0), BENCH_WRONG_LENGTH, 46, 0, 0, "a last age of 10^9");
+    expect_answer(export_from(1000000000, table, 2, out, 0), BENCH_NOT_ALLOWED, 0, 0, 0, "a last age of 10^9 + 1");
+    expect_answer(export_from(UINT64_MAX, table, 2, out, 64), BENCH_NOT_ALLOWED, 0, 0, 0, "a last age that would wrap");
+    memset(answer, 0xEE, sizeof answer);
+    uint64_t said = bench_export(table, 0, 59, (uint8_t *)out, 64, answer, 5);
+    expect(said == 32 * 4 + 13 && (answer[0] & 0xFF) == 0xEE, "export with an answer slice of five words, before all else");
+}
+
+static void tables_read(void)
+{
+    static const struct { const char *what, *text; uint64_t number, place; } cases[] = {
+        {"a table without the last CR LF", TABLE_HEADER "59,7\r\n60,1000000000", BENCH_DONE, 2},
+        {"one rate", TABLE_HEADER "1000000000,0\r\n", BENCH_DONE, 1},
+        {"a header alone", TABLE_HEADER, BENCH_NOT_ALLOWED, 0},
+        {"a header without its end", "age,rate", BENCH_NOT_ALLOWED, 0},
+        {"an empty text for a table", "", BENCH_BAD_LINE, 1},
+        {"a claims list for a table", CLAIMS, BENCH_BAD_LINE, 1},
+        {"three fields in a table", TABLE_HEADER "59,7,7\r\n", BENCH_BAD_LINE, 2},
+        {"a rate of 10^9 + 1 in a table", TABLE_HEADER "59,7\r\n60,1000000001\r\n", BENCH_BAD_LINE, 3},
+        {"an age left out of a table", TABLE_HEADER "59,7\r\n61,7\r\n", BENCH_AGE_NOT_NEXT, 3},
+        {"16 before 17 in a table", TABLE_HEADER "59,7\r\n61,+7\r\n", BENCH_BAD_LINE, 3},
+    };
+    const char text[] = TABLE_HEADER "59,7\r\n60,1000000000\r\n";
+    uint32_t out[3] = {9, 9, 9};
+    for (size_t i = 0; i < sizeof cases / sizeof *cases; i++)
+        expect_answer(rates_of(cases[i].text, strlen(cases[i].text), out, 3), cases[i].number, cases[i].place, 0, 0, cases[i].what);
+    out[0] = out[1] = 9;
+    expect_answer(rates_of(text, sizeof text - 1, out, 1), BENCH_WRONG_LENGTH, 2, 0, 0, "two rates into one word");
+    expect(out[0] == 9, "refused rates are not written");
+    expect_answer(rates_of(text, sizeof text - 1, out, 3), BENCH_DONE, 2, 0, 0, "two rates into three words");
+    expect(out[0] == 7 && out[1] == 1000000000 && out[2] == 9, "the rates and no more");
+    expect(bench_rates((const uint8_t *)text, 0, out, 3, answer, 0) == 32 * 4 + 13, "rates with an answer slice of no words");
+}
+
+/* The longest claims list, whose last age is 10^9 and whose exposures and deaths all are, and the longest pack made of one. */
+static void longest_import(void)
+{
+    static char text[BENCH_MOST_LIST_BYTES + 64];
+    const struct given given = {1000000, 7, 4294967295, 4, 1000, 1000000000000000, 1000000, 1000000};
+    uint8_t out[BENCH_MOST_IMPORT_BYTES];
+    size_t bytes = (size_t)sprintf(text, CLAIMS_HEADER);
+    for (int i = 0; i < BENCH_MOST_CELLS; i++)
+        bytes += (size_t)sprintf(text + bytes, "%d,1000000000,1000000000\r\n", 1000000000 - (BENCH_MOST_CELLS - 1) + i);
+    expect(bytes == BENCH_MOST_LIST_BYTES, "the longest claims list");
+    uint64_t said = import_given(text, bytes, &given, out, sizeof out - 1);
+    expect_answer(said, BENCH_WRONG_LENGTH, BENCH_MOST_IMPORT_BYTES, 0, 0, "its pack needs all bytes");
+    said = import_given(text, bytes, &given, out, sizeof out);
+    expect_answer(said, BENCH_DONE, BENCH_MOST_IMPORT_BYTES, 0, 0, "the longest pack of a claims list");
+    sprintf(text + bytes, "\r\n");
+    said = import_given(text, bytes + 2, &given, out, sizeof out);
+    expect_answer(said, BENCH_BAD_LINE, BENCH_MOST_CELLS + 2, 0, 0, "an empty 121st line");
+    sprintf(text + bytes, "1,1,2");
+    said = import_given(text, bytes + 5, &given, out, sizeof out);
+    expect_answer(said, BENCH_BAD_LINE, BENCH_MOST_CELLS + 2, 0, 0, "a 121st line, whatever it holds");
+}
+
+static void longest_export(void)
+{
+    static char text[BENCH_MOST_EXPORT_BYTES];
+    uint32_t table[BENCH_MOST_VALUES], again[BENCH_MOST_VALUES];
+    const uint64_t first_age = 1000000000 - (BENCH_MOST_VALUES - 1);
+    for (int i = 0; i < BENCH_MOST_VALUES; i++)
+        table[i] = 1000000000;
+    uint64_t said = export_from(first_age, table, BENCH_MOST_VALUES, text, sizeof text - 1);
+    expect_answer(said, BENCH_WRONG_LENGTH, BENCH_MOST_EXPORT_BYTES, 0, 0, "the longest export needs all bytes");
+    said = export_from(first_age, table, BENCH_MOST_VALUES, text, sizeof text);
+    expect_answer(said, BENCH_DONE, BENCH_MOST_EXPORT_BYTES, 0, 0, "the longest export");
+    said = rates_of(text, sizeof text, again, BENCH_MOST_VALUES - 1);
+    expect_answer(said, BENCH_WRONG_LENGTH, BENCH_MOST_VALUES, 0, 0, "its rates need all words");
+    expect_answer(rates_of(text, sizeof text, again, BENCH_MOST_VALUES), BENCH_DONE, BENCH_MOST_VALUES, 0, 0, "and are read back");
+    expect(memcmp(table, again, sizeof table) == 0, "as the same rates");
+}
+
+/* The numbers and lengths that a caller may have written out. */
+static void list_constants(void)
+{
+    expect(BENCH_BAD_LINE == 16 && BENCH_AGE_NOT_NEXT == 17 && BENCH_DEATHS_ABOVE_EXPOSURE == 18 && BENCH_NO_DIVISOR == 19, "the numbers of lists");
+    expect(BENCH_MOST_LIST_BYTES == 3982 && BENCH_MOST_IMPORT_BYTES == 1339 && BENCH_MOST_EXPORT_BYTES == 2651, "the lengths of lists");
+}
+
 int main(void)
 {
     checks();
@@ -832,6 +1065,15 @@ int main(void)
     other_counts();
     count_refusals();
     length_refusals();
+    list_to_list();
+    imports();
+    list_refusals();
+    given_refusals();
+    exports();
+    tables_read();
+    longest_import();
+    longest_export();
+    list_constants();
     printf("%d passed, %d failed\n", passed, failed);
     return failed == 0 ? 0 : 1;
 }

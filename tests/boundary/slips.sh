@@ -76,4 +76,4 @@ done <tests/boundary/slips
 
 echo "$passed passed, $failed failed"
 # The twin at both tests, and every slip of the list.
-[ "$failed" = 0 ] && [ "$passed" -gt 418 ]
+[ "$failed" = 0 ] && [ "$passed" -gt 544 ]

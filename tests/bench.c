@@ -26,6 +26,12 @@ static uint64_t answer[ANSWER_WORDS];
 static int64_t word_room[BENCH_MOST_JOB_WORDS];
 static uint8_t byte_room[BENCH_MOST_JOB_BYTES];
 
+/* Lists of as many lines as the table has cells: claims, and rates with their list. Import takes these numbers. */
+static struct bytes claims, table;
+static uint32_t rates[MOST_CELLS];
+static const struct twin_claims_job given = {100, 3, 7, 2, 1, 0, 0, MOST_VALUE};
+enum { FIRST_AGE = 16 };
+
 static uint32_t *own_span(void) { return shelf + twin_start(counts, (uint32_t)draft.job.society); }
 static size_t own_words(void) { return counts[draft.job.society] * SLOT_WORDS; }
 
@@ -47,7 +53,12 @@ static uint64_t on_bench(enum function function)
     case FORGET: return put_back(), bench_forget(shelf, SHELF_WORDS, society, number, answer, ANSWER_WORDS);
     case CLEAR: return bench_clear(shelf, SHELF_WORDS, counts, answer, ANSWER_WORDS);
     case READ: return bench_read(job.at, job.count, word_room, BENCH_MOST_JOB_WORDS, answer, ANSWER_WORDS);
-    default: return bench_write(words.at, words.count, byte_room, sizeof byte_room, answer, ANSWER_WORDS);
+    case WRITE: return bench_write(words.at, words.count, byte_room, sizeof byte_room, answer, ANSWER_WORDS);
+    case IMPORT:
+        return bench_import(claims.at, claims.count, given.divisor, given.society, given.number, given.order, given.constant, given.tolerance, given.floor,
+                          given.ceiling, byte_room, sizeof byte_room, answer, ANSWER_WORDS);
+    case EXPORT: return bench_export(rates, (size_t)draft.job.cells, FIRST_AGE, byte_room, sizeof byte_room, answer, ANSWER_WORDS);
+    default: return bench_rates(table.at, table.count, values, MOST_CELLS, answer, ANSWER_WORDS);
     }
 }
 
@@ -63,7 +74,12 @@ static uint64_t on_twin(enum function function)
     case FORGET: return put_back(), twin_forget(shelf, SHELF_WORDS, society, number, answer, ANSWER_WORDS);
     case CLEAR: return twin_clear(shelf, SHELF_WORDS, counts, answer, ANSWER_WORDS);
     case READ: return twin_read(job.at, job.count, word_room, BENCH_MOST_JOB_WORDS, answer, ANSWER_WORDS);
-    default: return twin_write(words.at, words.count, byte_room, sizeof byte_room, answer, ANSWER_WORDS);
+    case WRITE: return twin_write(words.at, words.count, byte_room, sizeof byte_room, answer, ANSWER_WORDS);
+    case IMPORT:
+        return twin_import(claims.at, claims.count, given.divisor, given.society, given.number, given.order, given.constant, given.tolerance, given.floor,
+                         given.ceiling, byte_room, sizeof byte_room, answer, ANSWER_WORDS);
+    case EXPORT: return twin_export(rates, (size_t)draft.job.cells, FIRST_AGE, byte_room, sizeof byte_room, answer, ANSWER_WORDS);
+    default: return twin_rates(table.at, table.count, values, MOST_CELLS, answer, ANSWER_WORDS);
     }
 }
 
@@ -89,9 +105,22 @@ static void fill_span(void)
     }
 }
 
+/* Exposures of four to seven digits and deaths of one to four; rates as they are in practice. */
+static void use_lists(void)
+{
+    claims.count = (size_t)sprintf((char *)claims.at, "age,exposure,deaths\r\n");
+    for (int i = 0; i < (int)draft.job.cells; i++) {
+        int exposure = 4321 + 71 * i * i, deaths = 3 + i * i / 2;
+        claims.count += (size_t)sprintf((char *)claims.at + claims.count, "%d,%d,%d\r\n", FIRST_AGE + i, exposure, deaths);
+        rates[i] = (uint32_t)(600 + 60 * i * i);
+    }
+    table.count = twin_export(rates, (size_t)draft.job.cells, FIRST_AGE, table.at, sizeof table.at, answer, ANSWER_WORDS) / 32;
+}
+
 static void use_draft(uint32_t two, uint32_t others)
 {
     use_counts(two, others);
+    use_lists();
     numbers_of_job(&draft.job, &list);
     numbers_pack(&list, &job);
     numbers_words(&list, &words);
@@ -267,7 +296,8 @@ static void measure_some(const char *input, bool stack_alone, int first, int las
     }
 }
 
-/* Every call where each society has four slots, then those on a shelf where two have ten and the others two. */
+/* Every call where each society has four slots, then those on a shelf where two have ten and the others two. Lists are measured here alone: they know
+ * neither orders nor grids. */
 static void measure(const char *input, const char *with_ten, bool stack_alone)
 {
     measure_some(input, stack_alone, 0, FUNCTIONS - 1);
@@ -285,12 +315,12 @@ int main(int argc, char **argv)
     use_full(4);
     measure("full, order 4", "full, ten slots", stack_alone);
     use_full(2);
-    measure_some("full, order 2", stack_alone, 0, FUNCTIONS - 1);
+    measure_some("full, order 2", stack_alone, 0, WRITE);
     use_small();
     measure("n 3", "n 3, ten slots", stack_alone);
     use_full_grid(12, 4, 4);
-    measure_some("grid 10x12", stack_alone, 0, FUNCTIONS - 1);
+    measure_some("grid 10x12", stack_alone, 0, WRITE);
     use_full_grid(2, 2, 1);
-    measure_some("grid 60x2", stack_alone, 0, FUNCTIONS - 1);
+    measure_some("grid 60x2", stack_alone, 0, WRITE);
     return stack_within() ? 0 : 1;
 }

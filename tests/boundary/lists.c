@@ -79,7 +79,11 @@ static int64_t some_count(struct random *r)
 static uint64_t some_first_age(struct random *r, int64_t count)
 {
     int64_t way = random_below(r, 10);
-    return way < 5 ? (uint64_t)random_below(r, 101) : way < 7 ? 0 : way < 9 ? (uint64_t)(MILLIARD - count + (way == 7 ? 1 : random_below(r, 4))) : any_listed(r);
+    if (way < 5)
+        return (uint64_t)random_below(r, 101);
+    if (way == 9)
+        return any_listed(r);
+    return way < 7 ? 0 : (uint64_t)(MILLIARD - count + (way == 7 ? 1 : random_below(r, 4)));
 }
 
 /* Numbers for a list that is good, but for ages above 10^9 and lines beyond the 120. */
@@ -148,7 +152,8 @@ static void put_odd(struct random *r, uint64_t value, char *out)
 {
     static const char *const forms[] = {"0%" PRIu64, "000%" PRIu64, "+%" PRIu64, "-%" PRIu64, " %" PRIu64, "%" PRIu64 " ", "\"%" PRIu64 "\"",
                                         "%" PRIu64 ".0", "%" PRIu64 "e0", "\t%" PRIu64, "00000000000000000000000%" PRIu64, "%" PRIu64 "000000000000"};
-    static const char *const others[] = {"", "00", "1000000001", "1999999999", "9999999999", "10000000000", "x", "0x1", "-0", "99999999999999999999999999"};
+    static const char *const others[] = {"", "00", "1000000001", "1999999999", "9999999999", "10000000000", "x", "0x1", "-0",
+                                         "99999999999999999999999999"};
     int64_t way = random_below(r, 4);
     if (way == 0)
         put_wrapped(value, out);

@@ -8,7 +8,7 @@ cd "$(dirname "$0")/../.." || exit 1
 . tests/lib.sh
 need gcc gcc
 
-CALLS=60000 DRAFTS=4000
+CALLS=70000 DRAFTS=4000
 out=target/tests/slips
 flags="-std=c99 -O1 -ffp-contract=off"
 parts="packs measure terms house grid shelf lists calls"

@@ -72,7 +72,7 @@ static uint64_t some_deaths(struct random *r, uint64_t exposure)
 static int64_t some_count(struct random *r)
 {
     int64_t way = random_below(r, 10);
-    return way < 5 ? random_between(r, 2, 12) : way < 7 ? random_below(r, 4) : way < 9 ? random_between(r, 118, 121) : random_below(r, 123);
+    return way < 5 ? random_between(r, 2, 12) : way < 7 ? random_below(r, 4) : way < 9 ? random_between(r, 119, 121) : random_below(r, 123);
 }
 
 /* Most often one from which all ages are allowed; the last of them may be 10^9, or one more. */
@@ -225,7 +225,7 @@ static void spoil_header(struct random *r)
 {
     const char *was = header_of(fields);
     char *text = line[0];
-    size_t length = strlen(was);
+    size_t length = strlen(strcpy(text, was));
     switch (random_below(r, 10)) {
     case 0: strcpy(text, header_of(fields == FIELDS ? FIELDS - 1 : FIELDS)); break;
     case 1: sprintf(text, "\xEF\xBB\xBF%s", was); break;
@@ -265,7 +265,7 @@ static void spoil_line(struct random *r, int64_t at)
         spoil_shape(r, line[at]);
 }
 
-/* A line to damage: the last as often as each tenth of the others; the header seldom. */
+/* A line to damage: often the last, less often the header, else any. */
 static int64_t some_line(struct random *r)
 {
     return random_chance(r, 20) ? data : random_chance(r, 15) || data == 0 ? 0 : random_between(r, 1, data);
@@ -275,7 +275,7 @@ static int64_t some_line(struct random *r)
 static void put_beyond(struct random *r)
 {
     static const char *const some[] = {"", "x", "0", "1,1,2", "1,1", "0,0,0"};
-    if (data == MOST_CELLS + 1 && random_chance(r, 50))
+    if (data == MOST_CELLS + 1 && random_chance(r, 60))
         strcpy(line[data], some[random_below(r, 6)]);
 }
 
@@ -290,27 +290,27 @@ static void put_bytes(struct bytes *out)
     }
 }
 
-/* One damage, or two on the same line or on two, to the numbers or to the text; then now and then one to the bytes, or no bytes at all. The last line
- * may lack its end. */
+/* One damage, or two on the same line or on two, each to the numbers or to the text; then now and then one to the bytes, or no bytes at all. The last
+ * line may lack its end. */
 static void finish(struct random *r, struct bytes *out)
 {
-    bool spoilt = random_chance(r, 40), twice = spoilt && random_chance(r, 40);
-    int64_t first = some_line(r), second = random_chance(r, 50) ? first : some_line(r);
-    bool in_numbers = random_chance(r, 40), both = random_chance(r, 30);
-    if (spoilt && in_numbers && first > 0)
-        spoil_number(r, first - 1);
-    if (twice && (both || !in_numbers) && second > 0)
-        spoil_number(r, second - 1);
+    int damages = !random_chance(r, 38) ? 0 : random_chance(r, 60) ? 1 : 2;
+    int64_t at[] = {some_line(r), some_line(r)};
+    bool in_text[] = {random_chance(r, 60), random_chance(r, 60)};
+    if (random_chance(r, 50))
+        at[1] = at[0];
+    for (int i = 0; i < damages; i++)
+        if (!in_text[i] && at[i] > 0)
+            spoil_number(r, at[i] - 1);
     put_lines();
     put_beyond(r);
     if (random_chance(r, 30))
         end[data] = "";
-    if (spoilt && !in_numbers)
-        spoil_line(r, first);
-    if (twice && in_numbers && !both)
-        spoil_line(r, second);
+    for (int i = 0; i < damages; i++)
+        if (in_text[i] || at[i] == 0)
+            spoil_line(r, at[i]);
     put_bytes(out);
-    if (random_chance(r, spoilt ? 5 : 10))
+    if (random_chance(r, 8))
         bytes_spoil(r, out);
     if (random_below(r, 200) == 0)
         out->count = 0;

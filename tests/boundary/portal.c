@@ -870,42 +870,43 @@ static void imports(void)
     expect(said == 32 * 4 + 13 && (answer[0] & 0xFF) == 0xEE, "import with an answer slice of three words, before all else");
 }
 
-/* The number and the place of each refusal of a list, its line. */
+/* Each refusal of a claims list, with its number and its line; then those of the pack that it would make. */
+static const struct { const char *what, *text; uint64_t number, place; } LIST_REFUSALS[] = {
+    {"an empty text", "", BENCH_BAD_LINE, 1},
+    {"a header in capitals", "Age,Exposure,Deaths\r\n40,1000,7\r\n", BENCH_BAD_LINE, 1},
+    {"a header with a blank", "age, exposure,deaths\r\n40,1000,7\r\n", BENCH_BAD_LINE, 1},
+    {"a byte order mark", "\xEF\xBB\xBF" CLAIMS_HEADER "40,1000,7\r\n", BENCH_BAD_LINE, 1},
+    {"lines that end in LF", "age,exposure,deaths\n40,1000,7\n41,2000,3\n", BENCH_BAD_LINE, 1},
+    {"one line that ends in LF", CLAIMS_HEADER "40,1000,7\r\n41,2000,3\n42,0,0\r\n", BENCH_BAD_LINE, 3},
+    {"one line that ends in CR", CLAIMS_HEADER "40,1000,7\r41,2000,3\r\n", BENCH_BAD_LINE, 2},
+    {"a quote", CLAIMS_HEADER "40,\"1000\",7\r\n", BENCH_BAD_LINE, 2},
+    {"a blank", CLAIMS_HEADER "40,1000,7 \r\n", BENCH_BAD_LINE, 2},
+    {"a leading zero", CLAIMS_HEADER "40,1000,07\r\n", BENCH_BAD_LINE, 2},
+    {"a sign", CLAIMS_HEADER "40,1000,-7\r\n", BENCH_BAD_LINE, 2},
+    {"an empty field", CLAIMS_HEADER "40,,7\r\n", BENCH_BAD_LINE, 2},
+    {"two fields", CLAIMS_HEADER "40,1000\r\n", BENCH_BAD_LINE, 2},
+    {"four fields", CLAIMS_HEADER "40,1000,7,0\r\n", BENCH_BAD_LINE, 2},
+    {"10^9 + 1", CLAIMS_HEADER "40,1000000001,7\r\n", BENCH_BAD_LINE, 2},
+    {"2^64 + 1000", CLAIMS_HEADER "40,18446744073709552616,7\r\n", BENCH_BAD_LINE, 2},
+    {"an empty line at the end", CLAIMS_HEADER "40,1000,7\r\n41,2000,3\r\n\r\n", BENCH_BAD_LINE, 4},
+    {"an age twice", CLAIMS_HEADER "40,1000,7\r\n40,2000,3\r\n", BENCH_AGE_NOT_NEXT, 3},
+    {"an age left out", CLAIMS_HEADER "40,1000,7\r\n42,2000,3\r\n", BENCH_AGE_NOT_NEXT, 3},
+    {"deaths above exposure", CLAIMS_HEADER "40,1000,1001\r\n", BENCH_DEATHS_ABOVE_EXPOSURE, 2},
+    {"deaths without exposure", CLAIMS_HEADER "40,1000,7\r\n41,0,1\r\n", BENCH_DEATHS_ABOVE_EXPOSURE, 3},
+    {"16 before 17", CLAIMS_HEADER "40,1000,7\r\n42,2000,03\r\n", BENCH_BAD_LINE, 3},
+    {"17 before 18", CLAIMS_HEADER "40,1000,7\r\n42,2000,2001\r\n", BENCH_AGE_NOT_NEXT, 3},
+    {"a line before the next", CLAIMS_HEADER "40,1000,1001\r\n42,2000,x\r\n", BENCH_DEATHS_ABOVE_EXPOSURE, 2},
+    {"a header alone", CLAIMS_HEADER, BENCH_NOT_ALLOWED, 2},
+    {"one line of data", CLAIMS_HEADER "40,1000,7\r\n", BENCH_NOT_ALLOWED, 2},
+    {"two lines where the order is 2", CLAIMS_HEADER "40,1000,7\r\n41,1000,7\r\n", BENCH_NOT_ALLOWED, 3},
+    {"exposures below the divisor", CLAIMS_HEADER "40,99,7\r\n41,100,7\r\n42,0,0", BENCH_FEW_WEIGHTS, 0},
+};
+
 static void list_refusals(void)
 {
-    static const struct { const char *what, *text; uint64_t number, place; } cases[] = {
-        {"an empty text", "", BENCH_BAD_LINE, 1},
-        {"a header in capitals", "Age,Exposure,Deaths\r\n40,1000,7\r\n", BENCH_BAD_LINE, 1},
-        {"a header with a blank", "age, exposure,deaths\r\n40,1000,7\r\n", BENCH_BAD_LINE, 1},
-        {"a byte order mark", "\xEF\xBB\xBF" CLAIMS_HEADER "40,1000,7\r\n", BENCH_BAD_LINE, 1},
-        {"lines that end in LF", "age,exposure,deaths\n40,1000,7\n41,2000,3\n", BENCH_BAD_LINE, 1},
-        {"one line that ends in LF", CLAIMS_HEADER "40,1000,7\r\n41,2000,3\n42,0,0\r\n", BENCH_BAD_LINE, 3},
-        {"one line that ends in CR", CLAIMS_HEADER "40,1000,7\r41,2000,3\r\n", BENCH_BAD_LINE, 2},
-        {"a quote", CLAIMS_HEADER "40,\"1000\",7\r\n", BENCH_BAD_LINE, 2},
-        {"a blank", CLAIMS_HEADER "40,1000,7 \r\n", BENCH_BAD_LINE, 2},
-        {"a leading zero", CLAIMS_HEADER "40,1000,07\r\n", BENCH_BAD_LINE, 2},
-        {"a sign", CLAIMS_HEADER "40,1000,-7\r\n", BENCH_BAD_LINE, 2},
-        {"an empty field", CLAIMS_HEADER "40,,7\r\n", BENCH_BAD_LINE, 2},
-        {"two fields", CLAIMS_HEADER "40,1000\r\n", BENCH_BAD_LINE, 2},
-        {"four fields", CLAIMS_HEADER "40,1000,7,0\r\n", BENCH_BAD_LINE, 2},
-        {"10^9 + 1", CLAIMS_HEADER "40,1000000001,7\r\n", BENCH_BAD_LINE, 2},
-        {"2^64 + 1000", CLAIMS_HEADER "40,18446744073709552616,7\r\n", BENCH_BAD_LINE, 2},
-        {"an empty line at the end", CLAIMS_HEADER "40,1000,7\r\n41,2000,3\r\n\r\n", BENCH_BAD_LINE, 4},
-        {"an age twice", CLAIMS_HEADER "40,1000,7\r\n40,2000,3\r\n", BENCH_AGE_NOT_NEXT, 3},
-        {"an age left out", CLAIMS_HEADER "40,1000,7\r\n42,2000,3\r\n", BENCH_AGE_NOT_NEXT, 3},
-        {"deaths above exposure", CLAIMS_HEADER "40,1000,1001\r\n", BENCH_DEATHS_ABOVE_EXPOSURE, 2},
-        {"deaths without exposure", CLAIMS_HEADER "40,1000,7\r\n41,0,1\r\n", BENCH_DEATHS_ABOVE_EXPOSURE, 3},
-        {"16 before 17", CLAIMS_HEADER "40,1000,7\r\n42,2000,03\r\n", BENCH_BAD_LINE, 3},
-        {"17 before 18", CLAIMS_HEADER "40,1000,7\r\n42,2000,2001\r\n", BENCH_AGE_NOT_NEXT, 3},
-        {"a line before the next", CLAIMS_HEADER "40,1000,1001\r\n42,2000,x\r\n", BENCH_DEATHS_ABOVE_EXPOSURE, 2},
-        {"a header alone", CLAIMS_HEADER, BENCH_NOT_ALLOWED, 2},
-        {"one line of data", CLAIMS_HEADER "40,1000,7\r\n", BENCH_NOT_ALLOWED, 2},
-        {"two lines where the order is 2", CLAIMS_HEADER "40,1000,7\r\n41,1000,7\r\n", BENCH_NOT_ALLOWED, 3},
-        {"exposures below the divisor", CLAIMS_HEADER "40,99,7\r\n41,100,7\r\n42,0,0", BENCH_FEW_WEIGHTS, 0},
-    };
     uint8_t out[1] = {0xEE};
-    for (size_t i = 0; i < sizeof cases / sizeof *cases; i++)
-        expect_answer(import(cases[i].text, out, 0), cases[i].number, cases[i].place, 0, 0, cases[i].what);
+    for (size_t i = 0; i < sizeof LIST_REFUSALS / sizeof *LIST_REFUSALS; i++)
+        expect_answer(import(LIST_REFUSALS[i].text, out, 0), LIST_REFUSALS[i].number, LIST_REFUSALS[i].place, 0, 0, LIST_REFUSALS[i].what);
     expect(out[0] == 0xEE, "a refused list writes nothing");
 }
 

@@ -6,8 +6,8 @@ ghost use Rattle.checked.specs.Checked.{takenFrom};
 ghost use Rattle.checked.specs.Given.{Rates};
 ghost use Rattle.line.specs.Line.{field, later, printed};
 ghost use Rattle.decimals.specs.Puts.{Puts, Room};
-use decimals::printing::put_number;
 use checked::count_at;
+use decimals::printing::put_number;
 
 const SPACE: u8 = 32;
 

@@ -13,6 +13,7 @@ use crate::parted::put_end;
 use crate::parted::put_field;
 use crate::parted::put_values;
 use checked::count_at;
+use decimals::printing::put_number;
 use numbers::zigzag::size_of;
 
 // The fields before the values.

@@ -93,7 +93,7 @@ module _ {A : Type 0} {a : Answer} (s : Small a) {answer : List ℕ} {before aft
           }
       go false e = record { lent = says .leaves ∙ rw e; told = says .answers ∙ rw e }
 
-  told-by : r % 32 ≡ 0 → (a .number ≡ 0) × (p ≡ answerWords a) × (x ≡ after)
+  pub told-by : r % 32 ≡ 0 → (a .number ≡ 0) × (p ≡ answerWords a) × (x ≡ after)
   told-by z = go (hasFour answer) refl
     where
       go : (t : Bool) → hasFour answer ≡ t → (a .number ≡ 0) × (p ≡ answerWords a) × (x ≡ after)
@@ -104,17 +104,19 @@ module _ {A : Type 0} {a : Answer} (s : Small a) {answer : List ℕ} {before aft
           let same : r ≡ 141 = says .returns ∙ rw e in
           absurd (omega (arith, same))
 
-  rest-by : ((m : ℕ) → a .place ≡ m → drop m after ≡ drop m before) → r % 32 ≡ 0 → drop (r / 32) x ≡ drop (r / 32) before
-  rest-by beyond z = go (hasFour answer) refl
+  pub place-by : r % 32 ≡ 0 → r / 32 ≡ a .place
+  place-by z = go (hasFour answer) refl
     where
-      go : (t : Bool) → hasFour answer ≡ t → drop (r / 32) x ≡ drop (r / 32) before
+      go : (t : Bool) → hasFour answer ≡ t → r / 32 ≡ a .place
       go true e =
           let same : r ≡ codeOf a = says .returns ∙ rw e in
-          let at = ap (λ (c : ℕ). c / 32) same ∙ place-of a s in
-          ap (drop (r / 32)) (says .leaves ∙ rw e) ∙ beyond (r / 32) (sym at)
+          ap (λ (c : ℕ). c / 32) same ∙ place-of a s
       go false e =
           let same : r ≡ 141 = says .returns ∙ rw e in
           absurd (omega (arith, same))
+
+  rest-by : ((m : ℕ) → a .place ≡ m → drop m after ≡ drop m before) → r % 32 ≡ 0 → drop (r / 32) x ≡ drop (r / 32) before
+  rest-by beyond z = ap (drop (r / 32)) (told-by z .2) ∙ beyond (r / 32) (sym (place-by z))
 
 pub numbered : Numbered
 numbered = record {

@@ -35,6 +35,7 @@ pub mod FetchTold
 pub mod Seen
 pub mod HandedTerms
 pub mod BenchPromises
+pub mod ListPromises
 pub mod TurnedCheck
 pub mod Ways
 pub mod Reversed

@@ -14,5 +14,6 @@ pub mod ShelfPromises
 pub mod HousePromises
 pub mod Seen
 pub mod BenchPromises
+pub mod ListPromises
 pub mod Reversed
 pub mod ReversedPromises

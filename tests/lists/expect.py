@@ -253,6 +253,12 @@ def read_by_csv(call, answered):
     several, first = call.takes
     return list(csv.reader(io.StringIO(text, newline=''))) == [['age', 'rate'], *([str(first + i), str(rate)] for i, rate in enumerate(several))]
 
+def written_by_csv(text):
+    """Whether a list that was taken is byte for byte what Python's csv module writes."""
+    again = io.StringIO(newline='')
+    csv.writer(again).writerows(csv.reader(io.StringIO(text.decode(), newline='')))
+    return again.getvalue().encode() == text
+
 def compare(folder):
     """What passed and what failed, a count each; the first few that fail are printed."""
     calls, answers = ((Path(folder) / name).read_text().splitlines() for name in ('calls', 'answered'))
@@ -267,12 +273,16 @@ def compare(folder):
             print(f'FAILED  {line}\n        answered {answered}\n        expected {expected}')
         if call.name == 'export' and number == 0:
             counts['read by csv' if read_by_csv(call, answered) else 'not read by csv'] += 1
-    print(f"the calls on lists: {counts['agree']} of {len(calls)} answers are those of the documents; {counts['read by csv']} tables are read by Python's csv")
+        elif number == 0:
+            counts[call.name + ' by csv'] += written_by_csv(call.takes[0])
+    print(f"the calls on lists: {counts['agree']} of {len(calls)} answers are those of the documents; Python's csv reads {counts['read by csv']} tables, and of "
+          f"lists as it writes them {counts['import by csv']} were imported and {counts['rates by csv']} read back")
     for name, several in NUMBERS.items():
         print(f'  {name}: ' + ', '.join(f'{number}: {met[name, number]}' for number in sorted(several)))
     missing = [(name, number) for name, several in NUMBERS.items() for number in several if not met[name, number]]
-    tests = [counts['agree'] == len(calls) == len(answers) > 0, counts['read by csv'] > 0 == counts['not read by csv'], not missing]
-    for good, what in zip(tests, ['an answer is another', 'a table is read otherwise by csv', f'not met: {missing}']):
+    tests = [counts['agree'] == len(calls) == len(answers) > 0, counts['read by csv'] > 0 == counts['not read by csv'],
+             counts['import by csv'] > 0 and counts['rates by csv'] > 0, not missing]
+    for good, what in zip(tests, ['an answer is another', 'a table is read otherwise by csv', 'no list of csv was taken', f'not met: {missing}']):
         if not good:
             print('FAILED  ' + what)
     print(f'{sum(tests)} passed, {len(tests) - sum(tests)} failed')

@@ -1,7 +1,7 @@
 #!/usr/bin/env python3
 """What the three calls on comma lists have to answer, from document 02 (W-201) and RFC 4180 alone, and random calls to compare (tests/lists/calls.c).
 
-  tests/lists/expect.py make FOLDER       writes FOLDER/calls, a call a line
+  tests/lists/expect.py make FOLDER       writes FOLDER/calls.in, a call a line
   tests/lists/expect.py compare FOLDER    compares FOLDER/answered, a line for each, and prints as its last line 'N passed, M failed'
 
 Half of the good lists are written by Python's csv module in its default dialect, and every table that was answered is read by it.
@@ -219,8 +219,8 @@ def wide(dice, *usual):
 def numbers_of(dice):
     """The divisor and what the pack takes as it is."""
     divisor = some(dice, 0, 1, 1, 10, 100, lambda: size(dice), lambda: dice.getrandbits(64)) if dice.random() < 0.7 else 1
-    low = wide(dice, 0, 0, 0, 0, 5, 999999, 1000000) if dice.random() < 0.4 else 0
-    high = wide(dice, 1000000, 1000000, 1000000, 500, 1000001) if dice.random() < 0.4 else 1000000
+    low = wide(dice, 0, 5, 999999, 1000000) if dice.random() < 0.4 else 0
+    high = wide(dice, 0, 500, 500, 1000000, 1000001) if dice.random() < 0.4 else 1000000
     return [divisor, wide(dice, *range(8)), wide(dice, 0, 1, 300, 2 ** 32 - 1), wide(dice, 0, 1, 2, 3, 4) if dice.random() < 0.9 else dice.randrange(5, 9),
             wide(dice, 1, 2, 100, 128, 1000), wide(dice, 0, 1, 10 ** 15, 200), low, high]
 
@@ -261,7 +261,7 @@ def written_by_csv(text):
 
 def compare(folder):
     """What passed and what failed, a count each; the first few that fail are printed."""
-    calls, answers = ((Path(folder) / name).read_text().splitlines() for name in ('calls', 'answered'))
+    calls, answers = ((Path(folder) / name).read_text().splitlines() for name in ('calls.in', 'answered'))
     met, counts = Counter(), Counter()
     for line, answered in zip(calls, answers):
         call = Call(line)
@@ -290,7 +290,7 @@ def compare(folder):
 
 def make(folder):
     dice = Random(SEED)
-    with open(Path(folder) / 'calls', 'w') as out:
+    with open(Path(folder) / 'calls.in', 'w') as out:
         out.writelines(a_call(dice) + '\n' for _ in range(CALLS))
     return True
 

@@ -142,7 +142,7 @@ static void say_few_weights(const struct list *l)
     for (uint64_t data = 0; data < data_of(l); data++)
         positive += number_in(line_of(l, data + 2), EXPOSURE) >= l->number[DIVISOR];
     printf("%" PRIu64 " of %" PRIu64 " weights %s above 0, and the order %" PRIu64 " needs %" PRIu64 ": a weight is above 0 where the exposure is at least the "
-           "divisor, %" PRIu64 "; give a smaller divisor or a smaller order\n",
+           "divisor, %" PRIu64 "; give a smaller divisor, a smaller order, or more ages with exposure\n",
            positive, data_of(l), positive == 1 ? "is" : "are", order, order, l->number[DIVISOR]);
 }
 

@@ -25,8 +25,8 @@
  *     0    done                                                    bytes, values, numbers or words written to an output; else 0
  *     1    job pack: number unreadable, or spare bytes             offset of its first byte, or of the first spare byte
  *     2    job pack: number not allowed                            offset of its first byte
- *          import: a number given that the job pack does not       offset that its first byte would have in the pack
- *          allow, or not 2 to 120 lines of data
+ *          import: a number given that a job pack does not         offset that its first byte would have in the pack
+ *          allow, or fewer than 2 lines of data
  *          export: not 1 to 120 rates, or a rate or an age         0
  *          above 10^9; rates: no line of data                      0
  *     3    floor above ceiling                                     cell
@@ -143,8 +143,8 @@
  *   - No two slices of one call overlap, unless the call only reads both. The counts of bench_clear are no part of the shelf: copy its row to clear
  *     it with the counts that it has. A pointer to const is only read.
  *   - BENCH_STACK_BYTES of stack are free, or for a job that is no grid BENCH_LINE_STACK_BYTES: a call puts its working room there. In
- *     bytes, as measured: check 20,624, terms 20,600, keep 21,824, fetch 20,704, read 17,080, write 17,144; propose 29,128 for a line and
- *     57,976 for a grid; forget and clear below 100.
+ *     bytes, as measured: check 20,624, terms 20,600, keep 21,824, fetch 20,704, read 17,080, write 17,224; propose 29,128 for a line and
+ *     57,976 for a grid; import 22,216, export 416, rates 1,264; forget and clear below 100.
  *   - a call names the right society: every call acts for the society that its job pack or its argument names, whoever makes it.
  *
  * Calls may run at the same time on several threads as long as no slice that one of them writes is lent to another. Calls on different
@@ -324,8 +324,8 @@ uint64_t bench_import(const uint8_t *text, size_t text_bytes, uint64_t divisor, 
                       uint64_t constant, uint64_t tolerance, uint64_t floor, uint64_t ceiling,
                       uint8_t *out, size_t out_bytes, uint64_t *answer, size_t answer_words);
 
-/* Writes a table to `out` as a list: the header, then a line for each rate, ages rising from `first_age`; every line ends in CR LF, the last too. Done: the
- * place is the text's bytes, and bench_rates gives the rates back. It asks no check: fetch gives values that were checked. Numbers: 0, 2, 13. */
+/* Writes a table to `out` as a list: the header, then a line for each rate, ages rising from `first_age`; every line ends in CR LF, the last too. Done:
+ * the place is the text's bytes, and bench_rates gives the rates back. It asks no check: fetch gives values that were checked. Numbers: 0, 2, 13. */
 uint64_t bench_export(const uint32_t *rates, size_t rate_count, uint64_t first_age,
                       uint8_t *out, size_t out_bytes, uint64_t *answer, size_t answer_words);
 

@@ -122,8 +122,7 @@ tables-returned rates first out answer r a x says z again other s b y back four 
     let at : r / 32 ≡ E .whole .n = place-by small says z ∙ ap (λ (o : Outcome). outcomeOf o .place) (E .whole .done) in
     let text : take (r / 32) x ≡ exportText first rates = ap₂ take at (told .2) ∙ front (exportOf (length out) first rates .bytes) out (E .whole .long) (E .whole .fits) ∙ E .text in
     let same : ratesOf (length again) (take (r / 32) x) ≡ record { values = rates; outcome = Done (length rates) } =
-    ap (ratesOf (length again)) text ∙ exports-read-back (length again) first rates (E .able) room in
-    (
+    ap (ratesOf (length again)) text ∙ exports-read-back (length again) first rates (E .able) room in (
       back .returns ∙ rw (four, ap (λ (q : Rated). q .outcome) same) (omega arith),
       ap (take (length rates)) (back .leaves ∙ rw (four, ap (λ (q : Rated). q .values) same)) ∙ front rates again refl room,
     )

@@ -10,17 +10,17 @@ use Rattle.numbers.specs.Choice.{if_then_else_}
 use Rattle.packs.specs.declared.Outcome.{Outcome}
 use Rattle.packs.specs.declared.Outcome.the-variants.{Done, Refused}
 use Rattle.lists.specs.Cut.{linesOf}
-use Rattle.lists.specs.Lines.{listedOf, Lists}
+use Rattle.lists.specs.Lines.{listedOf, ListRead}
 use Rattle.lists.proofs.Whole.{list-count, done, counts-read}
 use Rattle.lists.proofs.Near.{LineNumber, Ends, list-ends}
 use Rattle.exports.specs.Exports.{Rated, noRates, handedRates, ratesOf}
 
 pub rates-done : (room : ℕ) (text : List ℕ) {o : Outcome} {n : ℕ} {es ds : List ℕ}
-    → Lists (listedOf false (linesOf text)) (replicate 120 0) (replicate 120 0) o es ds → o ≡ Done n → handedRates room (take n ds) (Done n) ≡ ratesOf room text
+    → ListRead (listedOf false (linesOf text)) (replicate 120 0) (replicate 120 0) o es ds → o ≡ Done n → handedRates room (take n ds) (Done n) ≡ ratesOf room text
 rates-done room text L d = ap₂ (handedRates room) (counts-read false text L d) (sym (done false text L d))
 
 pub rates-refused : (room : ℕ) (text : List ℕ) {o : Outcome} {number line : ℕ} {es ds : List ℕ}
-    → Lists (listedOf false (linesOf text)) (replicate 120 0) (replicate 120 0) o es ds → o ≡ Refused number line → noRates number line ≡ ratesOf room text
+    → ListRead (listedOf false (linesOf text)) (replicate 120 0) (replicate 120 0) o es ds → o ≡ Refused number line → noRates number line ≡ ratesOf room text
 rates-refused room text L d = ap (handedRates room (listedOf false (linesOf text) .counts)) (sym (sym (L .ends) ∙ d))
 
 -- the four ways in which reading back ends: a line's fault, no line, no room, or the values

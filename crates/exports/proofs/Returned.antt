@@ -19,7 +19,7 @@ use Rattle.decimals.proofs.Wholes.{both}
 use Rattle.lists.specs.Cut.{lineEnd, linesOf}
 use Rattle.lists.specs.Lines.{ratesHeader, listedOf}
 use Rattle.exports.specs.Exports.{exportLine, exportLines, exportText, allUpto, Rated, noRates, handedRates, ratesOf}
-use Rattle.lists.specs.Promises.{joined, rowText, Listing, none, line, ListText}
+use Rattle.lists.specs.Promises.{joined, lineText, Listing, none, line, ListText}
 use Rattle.exports.specs.Promises.{ExportsReadBack, ExportsWrittenBack, ReadBackExactly}
 use Rattle.lists.proofs.Cuts.{lines-none}
 use Rattle.exports.proofs.Texts.{lines-cons, lines-nil, upto-cons, out-of}
@@ -29,7 +29,7 @@ use Rattle.lists.proofs.Listings.{same-length, read-exactly}
 -- ---- the lines of an export
 rows : (first : ℕ) → List ℕ → List (List ℕ)
 rows first [] = []
-rows first (rate ∷ rates) = rowText false first 0 rate ∷ rows (first + 1) rates
+rows first (rate ∷ rates) = lineText false first 0 rate ∷ rows (first + 1) rates
 
 none-of : List ℕ → List ℕ
 none-of [] = []
@@ -41,13 +41,13 @@ none-length [] = refl
 none-length (rate ∷ rates) = ap suc (none-length rates)
 
 -- a line is the row and its end
-line-parts : (age rate : ℕ) (rest : List ℕ) → exportLine age rate ++ rest ≡ rowText false age 0 rate ++ (lineEnd ++ rest)
+line-parts : (age rate : ℕ) (rest : List ℕ) → exportLine age rate ++ rest ≡ lineText false age 0 rate ++ (lineEnd ++ rest)
 line-parts age rate rest =
     append-assoc (decimal age) ((44 ∷ []) ++ (decimal rate ++ lineEnd)) rest
     ∙ ap (λ (l : List ℕ). decimal age ++ (44 ∷ l)) (append-assoc (decimal rate) lineEnd rest)
     ∙ sym (append-assoc (decimal age) (44 ∷ decimal rate) (lineEnd ++ rest))
 
-plain-row : (age rate : ℕ) → age ≤ largest → rate ≤ largest → Plain (rowText false age 0 rate)
+plain-row : (age rate : ℕ) → age ≤ largest → rate ≤ largest → Plain (lineText false age 0 rate)
 plain-row age rate a r =
     plain-append (decimal age) (44 ∷ decimal rate) (plain-digits (decimal age) (decimals-read-back age (omega arith) .0))
     (plain-one 44 (decimal rate) (λ e. omega arith) (plain-digits (decimal rate) (decimals-read-back rate (omega arith) .0)))
@@ -67,8 +67,8 @@ export-lines first [] f = ap linesOf (lines-nil first) ∙ lines-none
 export-lines first (rate ∷ rates) f =
     let small = fine-first f in
     ap linesOf (lines-cons first rate rates ∙ line-parts first rate (exportLines (first + 1) rates))
-    ∙ plain-line (rowText false first 0 rate) (exportLines (first + 1) rates) (plain-row first rate (small .0) (small .1 .0))
-    ∙ ap (λ (ls : List (List ℕ)). rowText false first 0 rate ∷ ls) (export-lines (first + 1) rates (small .1 .1))
+    ∙ plain-line (lineText false first 0 rate) (exportLines (first + 1) rates) (plain-row first rate (small .0) (small .1 .0))
+    ∙ ap (λ (ls : List (List ℕ)). lineText false first 0 rate ∷ ls) (export-lines (first + 1) rates (small .1 .1))
 
 not-claims : false ≡ true → {A : Type 0} → A
 not-claims e = clash (cc)
@@ -122,8 +122,8 @@ written-lines {first} none = lines-nil first ∙ sym joined-nil
 written-lines {first} (line {count = count} {lines = lines} {counts = counts} r below L) =
     lines-cons first count counts
     ∙ line-parts first count (exportLines (first + 1) counts)
-    ∙ ap (λ (l : List ℕ). rowText false first 0 count ++ (lineEnd ++ l)) (written-lines L)
-    ∙ sym (joined-cons (rowText false first 0 count) lines)
+    ∙ ap (λ (l : List ℕ). lineText false first 0 count ++ (lineEnd ++ l)) (written-lines L)
+    ∙ sym (joined-cons (lineText false first 0 count) lines)
 
 written-text : (text : List ℕ) {exposures counts : List ℕ} (W : ListText false text exposures counts) → exportText (W .first) counts ≡ joined (linesOf text)
 written-text text {counts = counts} W =

@@ -13,7 +13,7 @@ use Rattle.packs.specs.declared.Outcome.the-variants.{Done, Refused}
 use Rattle.packs.specs.Writing.{Written, refused, roomed}
 use Rattle.jobs.specs.Packs.{writeJob}
 use Rattle.lists.specs.Cut.{linesOf}
-use Rattle.lists.specs.Lines.{listedOf, Lists}
+use Rattle.lists.specs.Lines.{listedOf, ListRead}
 use Rattle.lists.proofs.Whole.{list-count, done, exposures-read, counts-read}
 use Rattle.lists.proofs.Near.{LineNumber, Ends, list-ends}
 use Rattle.imports.specs.declared.Given.{Given}
@@ -29,14 +29,14 @@ unfolding importOf
 importing g room text h e = rw (ne-eqb (g .divisor) 0 h) (ap (onListed g room (listedOf true (linesOf text))) (sym e))
 
 pub import-done : (g : Given) (room : ℕ) (text : List ℕ) → (g .divisor ≡ 0 → ⊥) → {o : Outcome} {n : ℕ} {es ds : List ℕ}
-    → Lists (listedOf true (linesOf text)) (replicate 120 0) (replicate 120 0) o es ds → o ≡ Done n
+    → ListRead (listedOf true (linesOf text)) (replicate 120 0) (replicate 120 0) o es ds → o ≡ Done n
     → roomed room (writeJob (wordsOf g (take n es) (take n ds))) ≡ importOf g room text
 import-done g room text h L d =
     ap₂ (λ (xs ys : List ℕ). roomed room (writeJob (wordsOf g xs ys))) (exposures-read true text L d) (counts-read true text L d)
     ∙ importing g room text h (done true text L d)
 
 pub import-refused : (g : Given) (room : ℕ) (text : List ℕ) → (g .divisor ≡ 0 → ⊥) → {o : Outcome} {number line : ℕ} {es ds : List ℕ}
-    → Lists (listedOf true (linesOf text)) (replicate 120 0) (replicate 120 0) o es ds → o ≡ Refused number line → refused number line ≡ importOf g room text
+    → ListRead (listedOf true (linesOf text)) (replicate 120 0) (replicate 120 0) o es ds → o ≡ Refused number line → refused number line ≡ importOf g room text
 import-refused g room text h L d = importing g room text h (sym (L .ends) ∙ d)
 
 -- the three ways in which an import ends: 19, a line's fault, or what the writer makes of the words

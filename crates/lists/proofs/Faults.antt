@@ -13,16 +13,16 @@ use Rattle.numbers.proofs.Clash.{clash}
 use Rattle.packs.specs.declared.Outcome.the-variants.{Done, Refused}
 use Rattle.lists.specs.declared.lines.Line.{Line}
 use Rattle.lists.specs.declared.lines.Line.the-variants.{Entry, Fault}
-use Rattle.lists.specs.declared.lines.Row.{Row}
-use Rattle.lists.specs.declared.lines.Row.the-variants.{Fields, Bad}
+use Rattle.lists.specs.declared.lines.Fields.{Fields}
+use Rattle.lists.specs.declared.lines.Fields.the-variants.{Numbers, Bad}
 use Rattle.lists.specs.Cut.{linesOf, sameBytes}
-use Rattle.lists.specs.Lines.{mostLines, headerOf, rowOf, inSequence, tested, lineOf, Listed, endsWith, listedFrom, listedOf}
-use Rattle.lists.specs.Promises.{rowText, InRange, Listing, none, line, Faulty, beyond, malformed, sequence, deaths, FirstFault, NoHeader, FaultOf, LowestFault}
+use Rattle.lists.specs.Lines.{mostLines, headerOf, fieldsOf, inSequence, tested, lineOf, Listed, endsWith, listedFrom, listedOf}
+use Rattle.lists.specs.Promises.{lineText, InRange, Listing, none, line, Faulty, beyond, malformed, sequence, deaths, FirstFault, NoHeader, FaultOf, LowestFault}
 use Rattle.decimals.proofs.Wholes.{both}
 use Rattle.lists.proofs.Cuts.{bytes-same, bytes-equal}
 use Rattle.lists.proofs.Tests.{sequence-first, sequence-later}
 use Rattle.lists.proofs.Walks.{listed-end}
-use Rattle.lists.proofs.Rows.{rows-exactly}
+use Rattle.lists.proofs.Exact.{lines-exactly}
 use Rattle.lists.proofs.Listings.{step-by, row-good, deaths-good, age-due}
 
 -- ---- one line
@@ -39,30 +39,30 @@ not-due k before age e = (later, λ q. eqb-false age (before + 1) (sequence-late
     later : k ≡ 0 → ⊥
     later z = let w : _≡_ {A = Bool} true false = sequence-first k before age z ∙ e in clash (cc)
 
-unread : (claims : Bool) (l : List ℕ) → rowOf claims l ≡ Bad → (age exposure count : ℕ) → InRange claims age exposure count → l ≡ rowText claims age exposure count → ⊥
+unread : (claims : Bool) (l : List ℕ) → fieldsOf claims l ≡ Bad → (age exposure count : ℕ) → InRange claims age exposure count → l ≡ lineText claims age exposure count → ⊥
 unread claims l b age exposure count r e =
-    let good : Fields age exposure count ≡ Bad = sym (rows-exactly .written claims age exposure count r) ∙ ap (rowOf claims) (sym e) ∙ b in
+    let good : Numbers age exposure count ≡ Bad = sym (lines-exactly .written claims age exposure count r) ∙ ap (fieldsOf claims) (sym e) ∙ b in
     clash (cc)
 
 pub line-fault : (claims : Bool) (k before : ℕ) (l : List ℕ) (number : ℕ) → lineOf claims k before l ≡ Fault number → Faulty claims k (before + 1) l number
-line-fault claims k before l number e = go (ltb k mostLines) refl (rowOf claims l) refl e
+line-fault claims k before l number e = go (ltb k mostLines) refl (fieldsOf claims l) refl e
   where
-    last : (a x y : ℕ) → ltb k mostLines ≡ true → rowOf claims l ≡ Fields a x y → (t u : Bool) → inSequence k before a ≡ t → (claims && ltb x y) ≡ u
+    last : (a x y : ℕ) → ltb k mostLines ≡ true → fieldsOf claims l ≡ Numbers a x y → (t u : Bool) → inSequence k before a ≡ t → (claims && ltb x y) ≡ u
         → (if t then (if u then Fault 18 else Entry a x y) else Fault 17) ≡ Fault number → Faulty claims k (before + 1) l number
     last a x y h r false u p q e =
         let n : 17 ≡ number = cc in
-        let row = rows-exactly .only claims l a x y r in
+        let row = lines-exactly .only claims l a x y r in
         let out = not-due k before a p in
         rw (← n) (sequence a x y (ltb-true k mostLines h) (row .0) (row .1) (out .0) (out .1))
     last a x y h r true true p q e =
         let n : 18 ≡ number = cc in
-        let row = rows-exactly .only claims l a x y r in
+        let row = lines-exactly .only claims l a x y r in
         let above = both claims (ltb x y) q in
         rw (← n) (deaths a x y (ltb-true k mostLines h) (row .0) (row .1) (due k before a p) (above .0) (ltb-true x y (above .1)))
     last a x y h r true false p q e = clash (cc)
 
-    go : (t : Bool) → ltb k mostLines ≡ t → (r : Row) → rowOf claims l ≡ r → (if t then tested claims k before r else Fault 16) ≡ Fault number → Faulty claims k (before + 1) l number
-    go true h (Fields a x y) r e = last a x y h r (inSequence k before a) (claims && ltb x y) refl refl e
+    go : (t : Bool) → ltb k mostLines ≡ t → (r : Fields) → fieldsOf claims l ≡ r → (if t then tested claims k before r else Fault 16) ≡ Fault number → Faulty claims k (before + 1) l number
+    go true h (Numbers a x y) r e = last a x y h r (inSequence k before a) (claims && ltb x y) refl refl e
     go true h Bad r e = let n : 16 ≡ number = cc in rw (← n) (malformed (ltb-true k mostLines h) (unread claims l r))
     go false h row r e = let n : 16 ≡ number = cc in rw (← n) (beyond (ltb-false k mostLines h))
 
@@ -96,7 +96,7 @@ from-here claims k next l lines p f =
     }
 
 from-later : (claims : Bool) (k age exposure count : ℕ) {l : List ℕ} {lines : List (List ℕ)} {number place : ℕ}
-    → InRange claims age exposure count × (l ≡ rowText claims age exposure count) → (claims ≡ true → count ≤ exposure)
+    → InRange claims age exposure count × (l ≡ lineText claims age exposure count) → (claims ≡ true → count ≤ exposure)
     → From claims (k + 1) (age + 1) lines number place → From claims k age (l ∷ lines) number place
 from-later claims k age exposure count {l} r d f =
     record {

@@ -3,7 +3,7 @@ pub mod Cuts
 pub mod Tests
 pub mod Walks
 pub mod Whole
-pub mod Rows
+pub mod Exact
 pub mod Listings
 pub mod Faults
 pub mod Joins

@@ -13,15 +13,15 @@ use Rattle.numbers.proofs.Clash.{clash}
 use Rattle.packs.specs.declared.Outcome.the-variants.{Done, Refused}
 use Rattle.lists.specs.declared.lines.Line.{Line}
 use Rattle.lists.specs.declared.lines.Line.the-variants.{Entry, Fault}
-use Rattle.lists.specs.declared.lines.Row.the-variants.{Fields}
+use Rattle.lists.specs.declared.lines.Fields.the-variants.{Numbers}
 use Rattle.lists.specs.Cut.{linesOf, sameBytes}
 use Rattle.lists.specs.Lines.{mostLines, headerOf, inSequence, tested, lineOf, Listed, endsWith, onLine, listedFrom, listedOf}
-use Rattle.lists.specs.Promises.{rowText, InRange, Listing, none, line, ReadExactly}
+use Rattle.lists.specs.Promises.{lineText, InRange, Listing, none, line, ReadExactly}
 use Rattle.lists.proofs.Cuts.{bytes-same, bytes-equal}
 use Rattle.lists.proofs.Tests.{Good, line-good, sequence-first, sequence-later, deaths-within, no-deaths, within-120}
 use Rattle.lists.proofs.Walks.{listed-step, listed-end}
 use Rattle.lists.proofs.Whole.{list-count}
-use Rattle.lists.proofs.Rows.{rows-exactly}
+use Rattle.lists.proofs.Exact.{lines-exactly}
 
 pub same-length : {claims : Bool} {age : ℕ} {lines : List (List ℕ)} {es ds : List ℕ} → Listing claims age lines es ds → length es ≡ length ds
 same-length none = refl
@@ -29,14 +29,14 @@ same-length (line r below L) = ap suc (same-length L)
 
 -- ---- a line written out is read
 good-line : (claims : Bool) (k before age exposure count : ℕ) → k < mostLines → InRange claims age exposure count → inSequence k before age ≡ true
-    → (claims ≡ true → count ≤ exposure) → lineOf claims k before (rowText claims age exposure count) ≡ Entry age exposure count
+    → (claims ≡ true → count ≤ exposure) → lineOf claims k before (lineText claims age exposure count) ≡ Entry age exposure count
 good-line claims k before age exposure count h r s d =
     sym (
-    within-120 claims k before (rowText claims age exposure count) h
-    (plain claims refl ∙ ap (tested claims k before) (sym (rows-exactly .written claims age exposure count r)))
+    within-120 claims k before (lineText claims age exposure count) h
+    (plain claims refl ∙ ap (tested claims k before) (sym (lines-exactly .written claims age exposure count r)))
     )
   where
-    plain : (t : Bool) → claims ≡ t → Entry age exposure count ≡ tested claims k before (Fields age exposure count)
+    plain : (t : Bool) → claims ≡ t → Entry age exposure count ≡ tested claims k before (Numbers age exposure count)
     plain true e = deaths-within claims k before age exposure count s e (d e)
     plain false e = no-deaths claims k before age exposure count s e
 
@@ -72,7 +72,7 @@ pub listing-read : (claims : Bool) (k before : ℕ) {age : ℕ} {lines : List (L
 listing-read claims k before none h s =
     read-same (listed-end claims k before) (record { same-exposures = refl; same-counts = refl; ends = ap Done (omega arith) })
 listing-read claims k before {age} (line {exposure = exposure} {count = count} {lines = lines} {exposures = exposures} r d L) h s =
-    let step = step-by claims k before (rowText claims age exposure count) lines (good-line claims k before age exposure count (omega arith) r (in-sequence k before age s) d) in
+    let step = step-by claims k before (lineText claims age exposure count) lines (good-line claims k before age exposure count (omega arith) r (in-sequence k before age s) d) in
     let rest = listing-read claims (k + 1) age L (omega arith) (inr refl) in
     let n : k + 1 + length exposures ≡ k + length (exposure ∷ exposures) = omega arith in
     read-same step (record {
@@ -90,8 +90,8 @@ module _ (claims : Bool) (k before : ℕ) (l : List ℕ) (lines : List (List ℕ
   good : Good claims k before l age exposure count
   good = line-good claims k before l age exposure count e
 
-  pub row-good : InRange claims age exposure count × (l ≡ rowText claims age exposure count)
-  row-good = rows-exactly .only claims l age exposure count (good .fields)
+  pub row-good : InRange claims age exposure count × (l ≡ lineText claims age exposure count)
+  row-good = lines-exactly .only claims l age exposure count (good .fields)
 
   pub deaths-good : claims ≡ true → count ≤ exposure
   deaths-good = deaths-of claims exposure count (good .deaths)

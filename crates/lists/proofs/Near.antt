@@ -13,10 +13,10 @@ use Rattle.packs.specs.declared.Outcome.the-variants.{Done, Refused}
 use Rattle.decimals.proofs.Wholes.{both}
 use Rattle.lists.specs.declared.lines.Line.{Line}
 use Rattle.lists.specs.declared.lines.Line.the-variants.{Entry, Fault}
-use Rattle.lists.specs.declared.lines.Row.{Row}
-use Rattle.lists.specs.declared.lines.Row.the-variants.{Fields, Bad}
+use Rattle.lists.specs.declared.lines.Fields.{Fields}
+use Rattle.lists.specs.declared.lines.Fields.the-variants.{Numbers, Bad}
 use Rattle.lists.specs.Cut.{sameBytes}
-use Rattle.lists.specs.Lines.{mostLines, headerOf, rowOf, inSequence, tested, lineOf, Listed, endsWith, listedFrom, listedOf}
+use Rattle.lists.specs.Lines.{mostLines, headerOf, fieldsOf, inSequence, tested, lineOf, Listed, endsWith, listedFrom, listedOf}
 use Rattle.lists.proofs.Tests.{line-good}
 use Rattle.lists.proofs.Walks.{listed-end}
 use Rattle.lists.proofs.Listings.{step-by}
@@ -30,15 +30,15 @@ Ends claims (Done n) = n ≤ mostLines
 Ends claims (Refused number place) = LineNumber claims number × (place ≤ 122)
 
 fault-of : (claims : Bool) (k before : ℕ) (l : List ℕ) (number : ℕ) → lineOf claims k before l ≡ Fault number → LineNumber claims number
-fault-of claims k before l number e = go (ltb k mostLines) (rowOf claims l) e
+fault-of claims k before l number e = go (ltb k mostLines) (fieldsOf claims l) e
   where
     last : (a x y : ℕ) (t u : Bool) → (claims && ltb x y) ≡ u → (if t then (if u then Fault 18 else Entry a x y) else Fault 17) ≡ Fault number → LineNumber claims number
     last a x y false u q e = inr (inl (cc))
     last a x y true true q e = inr (inr (cc, both claims (ltb x y) q .0))
     last a x y true false q e = clash (cc)
 
-    go : (t : Bool) (r : Row) → (if t then tested claims k before r else Fault 16) ≡ Fault number → LineNumber claims number
-    go true (Fields a x y) e = last a x y (inSequence k before a) (claims && ltb x y) refl e
+    go : (t : Bool) (r : Fields) → (if t then tested claims k before r else Fault 16) ≡ Fault number → LineNumber claims number
+    go true (Numbers a x y) e = last a x y (inSequence k before a) (claims && ltb x y) refl e
     go true Bad e = inl (cc)
     go false r e = inl (cc)
 

@@ -14,12 +14,12 @@ use Rattle.decimals.specs.declared.reading.Whole.{Whole}
 use Rattle.decimals.specs.declared.reading.Whole.the-variants.{Number, Malformed}
 use Rattle.decimals.specs.Whole.{largest, wholeOf}
 use Rattle.decimals.proofs.Back.{wholes-written-back}
-use Rattle.lists.specs.declared.lines.Row.{Row}
-use Rattle.lists.specs.declared.lines.Row.the-variants.{Fields, Bad}
+use Rattle.lists.specs.declared.lines.Fields.{Fields}
+use Rattle.lists.specs.declared.lines.Fields.the-variants.{Numbers, Bad}
 use Rattle.lists.specs.declared.lines.Line.{Line}
 use Rattle.lists.specs.declared.lines.Line.the-variants.{Entry, Fault}
 use Rattle.lists.specs.Cut.{lengthTo, isComma, fieldIn, fieldsAfter}
-use Rattle.lists.specs.Lines.{mostLines, twoOf, pairOf, threeOf, rowOf, inSequence, tested, lineOf}
+use Rattle.lists.specs.Lines.{mostLines, twoOf, pairOf, threeOf, fieldsOf, inSequence, tested, lineOf}
 
 -- ---- ages
 pub sequence-first : (k before age : ℕ) → k ≡ 0 → true ≡ inSequence k before age
@@ -30,17 +30,17 @@ sequence-later k before age h = rw (ne-eqb k 0 h)
 
 -- ---- a row's numbers
 module _ (claims : Bool) (k before age exposure count : ℕ) where
-  pub deaths-above : inSequence k before age ≡ true → claims ≡ true → exposure < count → Fault 18 ≡ tested claims k before (Fields age exposure count)
+  pub deaths-above : inSequence k before age ≡ true → claims ≡ true → exposure < count → Fault 18 ≡ tested claims k before (Numbers age exposure count)
   deaths-above s c h = rw (s, c, lt-ltb exposure count h)
 
   pub deaths-within : inSequence k before age ≡ true → claims ≡ true → count ≤ exposure
-      → Entry age exposure count ≡ tested claims k before (Fields age exposure count)
+      → Entry age exposure count ≡ tested claims k before (Numbers age exposure count)
   deaths-within s c h = rw (s, c, le-ltb exposure count h)
 
-  pub no-deaths : inSequence k before age ≡ true → claims ≡ false → Entry age exposure count ≡ tested claims k before (Fields age exposure count)
+  pub no-deaths : inSequence k before age ≡ true → claims ≡ false → Entry age exposure count ≡ tested claims k before (Numbers age exposure count)
   no-deaths s c = rw (s, c)
 
-  pub out-of-sequence : inSequence k before age ≡ false → Fault 17 ≡ tested claims k before (Fields age exposure count)
+  pub out-of-sequence : inSequence k before age ≡ false → Fault 17 ≡ tested claims k before (Numbers age exposure count)
   out-of-sequence s = rw s
 
 -- ---- fields that are not there
@@ -62,11 +62,11 @@ empty-pair : Bad ≡ pairOf []
 unfolding lengthTo
 empty-pair = refl
 
-pub one-of-three : (claims : Bool) (line : List ℕ) → claims ≡ true → length line ≤ lengthTo isComma line → Bad ≡ rowOf claims line
+pub one-of-three : (claims : Bool) (line : List ℕ) → claims ≡ true → length line ≤ lengthTo isComma line → Bad ≡ fieldsOf claims line
 one-of-three claims line c h =
     rw c (
     after-three (wholeOf (fieldIn line))
-    ∙ ap (λ (r : Row). threeOf (wholeOf (fieldIn line)) r) (empty-pair ∙ ap pairOf (sym (no-later line h)))
+    ∙ ap (λ (r : Fields). threeOf (wholeOf (fieldIn line)) r) (empty-pair ∙ ap pairOf (sym (no-later line h)))
     )
 
 -- ---- the numbers of a line are at most 10^9
@@ -75,10 +75,10 @@ pub record Small (age exposure count : ℕ) : Type 0 where
   pub exposure-small : exposure ≤ largest
   pub count-small : count ≤ largest
 
-pair-small : (line : List ℕ) (age exposure count : ℕ) → pairOf line ≡ Fields age exposure count → Small age exposure count
+pair-small : (line : List ℕ) (age exposure count : ℕ) → pairOf line ≡ Numbers age exposure count → Small age exposure count
 pair-small line age exposure count e = go (wholeOf (fieldIn line)) refl (wholeOf (fieldsAfter line)) refl e
   where
-    go : (a : Whole) → wholeOf (fieldIn line) ≡ a → (b : Whole) → wholeOf (fieldsAfter line) ≡ b → twoOf a b ≡ Fields age exposure count → Small age exposure count
+    go : (a : Whole) → wholeOf (fieldIn line) ≡ a → (b : Whole) → wholeOf (fieldsAfter line) ≡ b → twoOf a b ≡ Numbers age exposure count → Small age exposure count
     go (Number x) p (Number y) q e =
         let first : x ≡ age = cc in
         let none : 0 ≡ exposure = cc in
@@ -89,11 +89,11 @@ pair-small line age exposure count e = go (wholeOf (fieldIn line)) refl (wholeOf
     go (Number x) p Malformed q e = clash (cc)
     go Malformed p b q e = clash (cc)
 
-triple-small : (line : List ℕ) (age exposure count : ℕ) → threeOf (wholeOf (fieldIn line)) (pairOf (fieldsAfter line)) ≡ Fields age exposure count → Small age exposure count
+triple-small : (line : List ℕ) (age exposure count : ℕ) → threeOf (wholeOf (fieldIn line)) (pairOf (fieldsAfter line)) ≡ Numbers age exposure count → Small age exposure count
 triple-small line age exposure count e = go (wholeOf (fieldIn line)) refl (pairOf (fieldsAfter line)) refl e
   where
-    go : (a : Whole) → wholeOf (fieldIn line) ≡ a → (r : Row) → pairOf (fieldsAfter line) ≡ r → threeOf a r ≡ Fields age exposure count → Small age exposure count
-    go (Number x) p (Fields y none z) q e =
+    go : (a : Whole) → wholeOf (fieldIn line) ≡ a → (r : Fields) → pairOf (fieldsAfter line) ≡ r → threeOf a r ≡ Numbers age exposure count → Small age exposure count
+    go (Number x) p (Numbers y none z) q e =
         let first : x ≡ age = cc in
         let second : y ≡ exposure = cc in
         let last : z ≡ count = cc in
@@ -103,21 +103,21 @@ triple-small line age exposure count e = go (wholeOf (fieldIn line)) refl (pairO
     go (Number x) p Bad q e = clash (cc)
     go Malformed p r q e = clash (cc)
 
-row-small : (claims : Bool) (line : List ℕ) (age exposure count : ℕ) → rowOf claims line ≡ Fields age exposure count → Small age exposure count
+row-small : (claims : Bool) (line : List ℕ) (age exposure count : ℕ) → fieldsOf claims line ≡ Numbers age exposure count → Small age exposure count
 row-small true line age exposure count e = triple-small line age exposure count e
 row-small false line age exposure count e = pair-small line age exposure count e
 
 -- What a line that has no fault comes to.
 pub record Good (claims : Bool) (k before : ℕ) (line : List ℕ) (age exposure count : ℕ) : Type 0 where
   pub few : k < mostLines
-  pub fields : rowOf claims line ≡ Fields age exposure count
+  pub fields : fieldsOf claims line ≡ Numbers age exposure count
   pub sequence : inSequence k before age ≡ true
   pub deaths : (claims && ltb exposure count) ≡ false
 
 pub line-good : (claims : Bool) (k before : ℕ) (line : List ℕ) (age exposure count : ℕ) → lineOf claims k before line ≡ Entry age exposure count → Good claims k before line age exposure count
-line-good claims k before line age exposure count e = go (ltb k mostLines) refl (rowOf claims line) refl e
+line-good claims k before line age exposure count e = go (ltb k mostLines) refl (fieldsOf claims line) refl e
   where
-    last : (a x y : ℕ) → ltb k mostLines ≡ true → rowOf claims line ≡ Fields a x y → (t u : Bool) → inSequence k before a ≡ t → (claims && ltb x y) ≡ u
+    last : (a x y : ℕ) → ltb k mostLines ≡ true → fieldsOf claims line ≡ Numbers a x y → (t u : Bool) → inSequence k before a ≡ t → (claims && ltb x y) ≡ u
         → (if t then (if u then Fault 18 else Entry a x y) else Fault 17) ≡ Entry age exposure count → Good claims k before line age exposure count
     last a x y h r false u p q e = clash (cc)
     last a x y h r true true p q e = clash (cc)
@@ -132,9 +132,9 @@ line-good claims k before line age exposure count e = go (ltb k mostLines) refl 
           deaths = ap₂ (λ (n m : ℕ). claims && ltb n m) (sym second) (sym third) ∙ q;
         }
 
-    go : (t : Bool) → ltb k mostLines ≡ t → (r : Row) → rowOf claims line ≡ r → (if t then tested claims k before r else Fault 16) ≡ Entry age exposure count
+    go : (t : Bool) → ltb k mostLines ≡ t → (r : Fields) → fieldsOf claims line ≡ r → (if t then tested claims k before r else Fault 16) ≡ Entry age exposure count
         → Good claims k before line age exposure count
-    go true h (Fields a x y) r e = last a x y h r (inSequence k before a) (claims && ltb x y) refl refl e
+    go true h (Numbers a x y) r e = last a x y h r (inSequence k before a) (claims && ltb x y) refl refl e
     go true h Bad r e = clash (cc)
     go false h row r e = clash (cc)
 
@@ -142,7 +142,7 @@ pub line-small : (claims : Bool) (k before : ℕ) (line : List ℕ) (age exposur
 line-small claims k before line age exposure count e = row-small claims line age exposure count (line-good claims k before line age exposure count e .fields)
 
 -- ---- a line after 120 others
-pub within-120 : (claims : Bool) (k before : ℕ) (line : List ℕ) {l : Line} → k < mostLines → l ≡ tested claims k before (rowOf claims line) → l ≡ lineOf claims k before line
+pub within-120 : (claims : Bool) (k before : ℕ) (line : List ℕ) {l : Line} → k < mostLines → l ≡ tested claims k before (fieldsOf claims line) → l ≡ lineOf claims k before line
 within-120 claims k before line h e = rw (lt-ltb k mostLines h) e
 
 pub beyond-120 : (claims : Bool) (k before : ℕ) (line : List ℕ) → mostLines ≤ k → Fault 16 ≡ lineOf claims k before line
@@ -158,9 +158,9 @@ module _ (line : List ℕ) {n : ℕ} (e : n ≡ lengthTo isComma line) where
       take-all (length line - (n + 1)) (drop (n + 1) line) (omega (arith, length-drop (n + 1) line))
       ∙ ap (λ (k : ℕ). drop (k + 1) line) e
 
-  pub two-fields : {a b : Whole} {r : Row} → a ≡ wholeOf (take (n - 0) line) → b ≡ wholeOf (take (length line - (n + 1)) (drop (n + 1) line)) → r ≡ twoOf a b → r ≡ pairOf line
+  pub two-fields : {a b : Whole} {r : Fields} → a ≡ wholeOf (take (n - 0) line) → b ≡ wholeOf (take (length line - (n + 1)) (drop (n + 1) line)) → r ≡ twoOf a b → r ≡ pairOf line
   two-fields p q made = made ∙ ap₂ twoOf (p ∙ ap wholeOf field-cut) (q ∙ ap wholeOf later-cut)
 
-  pub three-fields : (claims : Bool) → claims ≡ true → {a : Whole} {b r : Row}
-      → a ≡ wholeOf (take (n - 0) line) → b ≡ pairOf (take (length line - (n + 1)) (drop (n + 1) line)) → r ≡ threeOf a b → r ≡ rowOf claims line
+  pub three-fields : (claims : Bool) → claims ≡ true → {a : Whole} {b r : Fields}
+      → a ≡ wholeOf (take (n - 0) line) → b ≡ pairOf (take (length line - (n + 1)) (drop (n + 1) line)) → r ≡ threeOf a b → r ≡ fieldsOf claims line
   three-fields claims c p q made = rw c (made ∙ ap₂ threeOf (p ∙ ap wholeOf field-cut) (q ∙ ap pairOf later-cut))

@@ -15,7 +15,7 @@ use Rattle.decimals.specs.Whole.{largest}
 use Rattle.lists.specs.declared.lines.Line.{Line}
 use Rattle.lists.specs.declared.lines.Line.the-variants.{Entry, Fault}
 use Rattle.lists.specs.Cut.{lengthTo, isBreak, lineIn, linesAfter, linesOf, sameBytes}
-use Rattle.lists.specs.Lines.{mostLines, headerOf, lineOf, Listed, endsWith, onLine, listedFrom, listedOf, Lists}
+use Rattle.lists.specs.Lines.{mostLines, headerOf, lineOf, Listed, endsWith, onLine, listedFrom, listedOf, ListRead}
 use Rattle.lists.proofs.Cuts.{lines-none, lines-some}
 use Rattle.lists.proofs.Tests.{Small, line-good, line-small}
 
@@ -66,7 +66,7 @@ walking-start claims text from exposures counts h =
 module _ {claims : Bool} {text : List ℕ} {from : ℕ} {exposures₀ counts₀ exposures counts : List ℕ} {at k before : ℕ}
     (W : Walking claims text from exposures₀ counts₀ exposures counts at k before) where
   -- where nothing is left, what was stored is all
-  ended : {o : Outcome} → fromText claims text at k before ≡ endsWith o → Lists (fromText claims text from 0 0) exposures₀ counts₀ o exposures counts
+  ended : {o : Outcome} → fromText claims text at k before ≡ endsWith o → ListRead (fromText claims text from 0 0) exposures₀ counts₀ o exposures counts
   ended e =
       record {
         ends = sym (ap (λ (x : Listed). x .outcome) e) ∙ W .ends;
@@ -117,14 +117,14 @@ module _ {claims : Bool} {text : List ℕ} {from : ℕ} {exposures₀ counts₀ 
         stopped : fromText claims text at k before ≡ endsWith (Refused number (k + 2))
         stopped = left-by ∙ ap (λ (x : Line). onLine x (k + 2) (λ age. listedFrom claims (k + 1) age (linesOf (drop (end + 2) text)))) q
 
-        pub walking-bad : Lists (fromText claims text from 0 0) exposures₀ counts₀ (Refused number (k + 2)) exposures counts
+        pub walking-bad : ListRead (fromText claims text from 0 0) exposures₀ counts₀ (Refused number (k + 2)) exposures counts
         walking-bad = ended stopped
 
   module _ (h : length text ≤ at) where
     over : fromText claims text at k before ≡ endsWith (Done k)
     over = ap (λ (s : List ℕ). listedFrom claims k before (linesOf s)) (drop-of-length-le text {i = at} h) ∙ ap (listedFrom claims k before) lines-none ∙ listed-end claims k before
 
-    pub walking-end : Lists (fromText claims text from 0 0) exposures₀ counts₀ (Done k) exposures counts
+    pub walking-end : ListRead (fromText claims text from 0 0) exposures₀ counts₀ (Done k) exposures counts
     walking-end = ended over
 
 -- ---- the header
@@ -162,14 +162,14 @@ module _ (claims : Bool) (text : List ℕ) {end : ℕ} (e : end ≡ 0 + lengthTo
   list-headless q = headed claims text false end-plain (same-plain ∙ q)
 
 -- what was read of the lines is read of the list
-pub lists-same : {a b : Listed} → a ≡ b → {exposures counts exposures-after counts-after : List ℕ} {o : Outcome} → Lists a exposures counts o exposures-after counts-after
-    → Lists b exposures counts o exposures-after counts-after
-lists-same e {exposures} {counts} l =
+pub read-same-as : {a b : Listed} → a ≡ b → {exposures counts exposures-after counts-after : List ℕ} {o : Outcome} → ListRead a exposures counts o exposures-after counts-after
+    → ListRead b exposures counts o exposures-after counts-after
+read-same-as e {exposures} {counts} l =
     record {
       ends = l .ends ∙ ap (λ (x : Listed). x .outcome) e;
       kept = l .kept ∙ ap (λ (x : Listed). sets exposures 0 (x .exposures)) e;
       counted = l .counted ∙ ap (λ (x : Listed). sets counts 0 (x .counts)) e;
     }
 
-pub lists-none : (o : Outcome) (exposures counts : List ℕ) → Lists (endsWith o) exposures counts o exposures counts
-lists-none o exposures counts = record { ends = refl; kept = refl; counted = refl }
+pub read-none : (o : Outcome) (exposures counts : List ℕ) → ListRead (endsWith o) exposures counts o exposures counts
+read-none o exposures counts = record { ends = refl; kept = refl; counted = refl }

@@ -13,7 +13,7 @@ use Rattle.packs.specs.declared.Outcome.the-variants.{Done, Refused}
 use Rattle.lists.specs.declared.lines.Line.{Line}
 use Rattle.lists.specs.declared.lines.Line.the-variants.{Entry, Fault}
 use Rattle.lists.specs.Cut.{linesOf, sameBytes}
-use Rattle.lists.specs.Lines.{mostLines, headerOf, lineOf, Listed, endsWith, onLine, listedFrom, listedOf, Lists}
+use Rattle.lists.specs.Lines.{mostLines, headerOf, lineOf, Listed, endsWith, onLine, listedFrom, listedOf, ListRead}
 use Rattle.lists.proofs.Tests.{line-good}
 use Rattle.lists.proofs.Walks.{listed-step, listed-end}
 
@@ -21,7 +21,6 @@ use Rattle.lists.proofs.Walks.{listed-step, listed-end}
 pub record Counted (k : ℕ) (listed : Listed) (n : ℕ) : Type 0 where
   pub exposures : n ≡ k + length (listed .exposures)
   pub counts : n ≡ k + length (listed .counts)
-  pub ages : n ≡ k + length (listed .ages)
   pub few : n ≤ mostLines
 
 counted-same : {k n : ℕ} {a b : Listed} → a ≡ b → Counted k b n → Counted k a n
@@ -29,7 +28,6 @@ counted-same {k} {n} e c =
     record {
       exposures = c .exposures ∙ ap (λ (x : Listed). k + length (x .exposures)) (sym e);
       counts = c .counts ∙ ap (λ (x : Listed). k + length (x .counts)) (sym e);
-      ages = c .ages ∙ ap (λ (x : Listed). k + length (x .ages)) (sym e);
       few = c .few;
     }
 
@@ -37,7 +35,7 @@ pub listed-count : (claims : Bool) (k before : ℕ) (lines : List (List ℕ)) (n
     → Counted k (listedFrom claims k before lines) n
 listed-count claims k before [] n h e =
     let q : k ≡ n = cc (ap (λ (x : Listed). x .outcome) (listed-end claims k before)) in
-    counted-same (listed-end claims k before) (record { exposures = omega arith; counts = omega arith; ages = omega arith; few = omega arith })
+    counted-same (listed-end claims k before) (record { exposures = omega arith; counts = omega arith; few = omega arith })
 listed-count claims k before (line ∷ lines) n h e = go (lineOf claims k before line) refl (λ age m. listed-count claims (k + 1) age lines n m)
   where
     go : (l : Line) → lineOf claims k before line ≡ l
@@ -47,7 +45,7 @@ listed-count claims k before (line ∷ lines) n h e = go (lineOf claims k before
         let step : listedFrom claims k before (line ∷ lines) ≡ onLine (Entry age exposure count) (k + 2) (λ a. listedFrom claims (k + 1) a lines) =
         listed-step claims k before line lines ∙ ap (λ (l : Line). onLine l (k + 2) (λ a. listedFrom claims (k + 1) a lines)) q in
         let c = ih age (omega (arith, line-good claims k before line age exposure count q .few)) (sym (ap (λ (x : Listed). x .outcome) step) ∙ e) in
-        counted-same step (record { exposures = omega (arith, c .exposures); counts = omega (arith, c .counts); ages = omega (arith, c .ages); few = c .few })
+        counted-same step (record { exposures = omega (arith, c .exposures); counts = omega (arith, c .counts); few = c .few })
     go (Fault number) q ih =
         let step : listedFrom claims k before (line ∷ lines) ≡ endsWith (Refused number (k + 2)) =
         listed-step claims k before line lines ∙ ap (λ (l : Line). onLine l (k + 2) (λ a. listedFrom claims (k + 1) a lines)) q in
@@ -73,7 +71,7 @@ kept-long values stored s = ap length s ∙ length-sets (replicate 120 0) 0 valu
 
 -- the lists that were read stand in the scratch
 module _ (claims : Bool) (text : List ℕ) {o : Outcome} {n : ℕ} {es ds : List ℕ}
-    (L : Lists (listedOf claims (linesOf text)) (replicate 120 0) (replicate 120 0) o es ds) (d : o ≡ Done n) where
+    (L : ListRead (listedOf claims (linesOf text)) (replicate 120 0) (replicate 120 0) o es ds) (d : o ≡ Done n) where
   listed : Listed
   listed = listedOf claims (linesOf text)
 

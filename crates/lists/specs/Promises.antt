@@ -9,9 +9,9 @@ use Rattle.numbers.specs.Choice.{if_then_else_}
 use Rattle.packs.specs.declared.Outcome.the-variants.{Done, Refused}
 use Rattle.decimals.specs.Decimal.{decimal}
 use Rattle.decimals.specs.Whole.{largest}
-use Rattle.lists.specs.declared.lines.Row.the-variants.{Fields}
+use Rattle.lists.specs.declared.lines.Fields.the-variants.{Numbers}
 use Rattle.lists.specs.Cut.{lineEnd, linesOf}
-use Rattle.lists.specs.Lines.{mostLines, headerOf, rowOf, listedOf}
+use Rattle.lists.specs.Lines.{mostLines, headerOf, fieldsOf, listedOf}
 
 -- ---- lines
 
@@ -25,8 +25,8 @@ abbrev pub LinesJoined : Type 0
 LinesJoined = (text : List ℕ) → (joined (linesOf text) ≡ text) ⊎ (joined (linesOf text) ≡ text ++ lineEnd)
 
 -- A line of a claims list, and of a table, written out.
-abbrev pub rowText : (claims : Bool) (age exposure count : ℕ) → List ℕ
-rowText claims age exposure count =
+abbrev pub lineText : (claims : Bool) (age exposure count : ℕ) → List ℕ
+lineText claims age exposure count =
     if claims then decimal age ++ (44 ∷ (decimal exposure ++ (44 ∷ decimal count))) else decimal age ++ (44 ∷ decimal count)
 
 -- "whole numbers 0..10^9"; a table has no exposure.
@@ -37,10 +37,10 @@ pub record InRange (claims : Bool) (age exposure count : ℕ) : Type 0 where
   pub none : claims ≡ false → exposure ≡ 0
 
 -- A line is well formed exactly if it is its numbers written out.
-pub record RowsExactly : Type 0 where
-  pub written : (claims : Bool) (age exposure count : ℕ) → InRange claims age exposure count → rowOf claims (rowText claims age exposure count) ≡ Fields age exposure count
-  pub only : (claims : Bool) (line : List ℕ) (age exposure count : ℕ) → rowOf claims line ≡ Fields age exposure count
-      → InRange claims age exposure count × (line ≡ rowText claims age exposure count)
+pub record LinesExactly : Type 0 where
+  pub written : (claims : Bool) (age exposure count : ℕ) → InRange claims age exposure count → fieldsOf claims (lineText claims age exposure count) ≡ Numbers age exposure count
+  pub only : (claims : Bool) (line : List ℕ) (age exposure count : ℕ) → fieldsOf claims line ≡ Numbers age exposure count
+      → InRange claims age exposure count × (line ≡ lineText claims age exposure count)
 
 -- ---- lists
 
@@ -48,7 +48,7 @@ pub record RowsExactly : Type 0 where
 pub data Listing (claims : Bool) : (age : ℕ) → List (List ℕ) → (exposures counts : List ℕ) → Type 0 where
   none : {age : ℕ} → Listing claims age [] [] []
   line : {age exposure count : ℕ} {lines : List (List ℕ)} {exposures counts : List ℕ} → InRange claims age exposure count → (claims ≡ true → count ≤ exposure)
-      → Listing claims (age + 1) lines exposures counts → Listing claims age (rowText claims age exposure count ∷ lines) (exposure ∷ exposures) (count ∷ counts)
+      → Listing claims (age + 1) lines exposures counts → Listing claims age (lineText claims age exposure count ∷ lines) (exposure ∷ exposures) (count ∷ counts)
 
 -- A text that is a list: its header, then at most 120 such lines.
 pub record ListText (claims : Bool) (text : List ℕ) (exposures counts : List ℕ) : Type 0 where
@@ -72,11 +72,11 @@ pub record ReadExactly : Type 0 where
 -- list.
 pub data Faulty (claims : Bool) (k next : ℕ) (line : List ℕ) : (number : ℕ) → Type 0 where
   beyond : mostLines ≤ k → Faulty claims k next line 16
-  malformed : k < mostLines → ((age exposure count : ℕ) → InRange claims age exposure count → line ≡ rowText claims age exposure count → ⊥)
+  malformed : k < mostLines → ((age exposure count : ℕ) → InRange claims age exposure count → line ≡ lineText claims age exposure count → ⊥)
       → Faulty claims k next line 16
-  sequence : (age exposure count : ℕ) → k < mostLines → InRange claims age exposure count → line ≡ rowText claims age exposure count
+  sequence : (age exposure count : ℕ) → k < mostLines → InRange claims age exposure count → line ≡ lineText claims age exposure count
       → (k ≡ 0 → ⊥) → (age ≡ next → ⊥) → Faulty claims k next line 17
-  deaths : (age exposure count : ℕ) → k < mostLines → InRange claims age exposure count → line ≡ rowText claims age exposure count
+  deaths : (age exposure count : ℕ) → k < mostLines → InRange claims age exposure count → line ≡ lineText claims age exposure count
       → (k ≡ 0) ⊎ (age ≡ next) → claims ≡ true → exposure < count → Faulty claims k next line 18
 
 -- The first faulty line of data: all before it are without fault. "The header is 1."

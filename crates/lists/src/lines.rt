@@ -2,16 +2,16 @@
 ghost use mathlib.Core.Path.{_≡_};
 ghost use Prim.Native.Nat.{_≤_};
 ghost use Rattle.decimals.specs.Whole.{largest};
-ghost use Rattle.lists.specs.Lines.{twoOf, pairOf, threeOf, rowOf, inSequence, tested, lineOf, headerOf};
+ghost use Rattle.lists.specs.Lines.{twoOf, pairOf, threeOf, fieldsOf, inSequence, tested, lineOf, headerOf};
 ghost use Rattle.lists.specs.Cut.{sameBytes};
-ghost use Rattle.lists.specs.declared.lines.Row.the-variants.{Fields};
+ghost use Rattle.lists.specs.declared.lines.Fields.the-variants.{Numbers};
 use crate::cut::comma_in;
 use decimals::reading::Whole;
 use decimals::reading::whole_of;
 
 // The numbers of a line: age, exposure and deaths; or age, 0 and rate.
-pub enum Row {
-    Fields(u64, u64, u64),
+pub enum Fields {
+    Numbers(u64, u64, u64),
     Bad,
 }
 
@@ -24,25 +24,25 @@ pub enum Line {
 // The most lines of data.
 pub const MOST_LINES: usize = 120;
 
-fn two_of(age: Whole, count: Whole) -> Row
+fn two_of(age: Whole, count: Whole) -> Fields
     ensures { λ r. ⌜ r ≡ twoOf age count ⌝ }
 {
     match age {
         Whole::Number(a) => match count {
-            Whole::Number(b) => Row::Fields(a, 0, b),
-            Whole::Malformed => Row::Bad,
+            Whole::Number(b) => Fields::Numbers(a, 0, b),
+            Whole::Malformed => Fields::Bad,
         },
-        Whole::Malformed => Row::Bad,
+        Whole::Malformed => Fields::Bad,
     }
 }
 
 // A line of two fields.
-fn pair_of(line: &[u8]) -> Row
+fn pair_of(line: &[u8]) -> Fields
     ensures { λ r. ⌜ r ≡ pairOf (now (line .entry)) ⌝ }
 {
     let n = comma_in(line);
     if line.len() <= n {
-        return Row::Bad;
+        return Fields::Bad;
     }
     let next = n + 1;
     let age = whole_of(&line[0..n]);
@@ -50,26 +50,26 @@ fn pair_of(line: &[u8]) -> Row
     two_of(age, count)
 }
 
-fn three_of(age: Whole, later: Row) -> Row
+fn three_of(age: Whole, later: Fields) -> Fields
     ensures { λ r. ⌜ r ≡ threeOf age later ⌝ }
 {
     match age {
         Whole::Number(a) => match later {
-            Row::Fields(exposure, _, count) => Row::Fields(a, exposure, count),
-            Row::Bad => Row::Bad,
+            Fields::Numbers(exposure, _, count) => Fields::Numbers(a, exposure, count),
+            Fields::Bad => Fields::Bad,
         },
-        Whole::Malformed => Row::Bad,
+        Whole::Malformed => Fields::Bad,
     }
 }
 
 // The fields of a line: three of a claims list, two of an export.
-fn row_of(claims: bool, line: &[u8]) -> Row
-    ensures { λ r. ⌜ r ≡ rowOf claims (now (line .entry)) ⌝ }
+fn fields_of(claims: bool, line: &[u8]) -> Fields
+    ensures { λ r. ⌜ r ≡ fieldsOf claims (now (line .entry)) ⌝ }
 {
     if claims {
         let n = comma_in(line);
         if line.len() <= n {
-            return Row::Bad;
+            return Fields::Bad;
         }
         let next = n + 1;
         let age = whole_of(&line[0..n]);
@@ -91,10 +91,10 @@ fn follows(k: usize, before: u64, age: u64) -> bool
     age == next
 }
 
-// A row's numbers after k lines of data, the last of which had the age `before`.
+// A line's numbers after k lines of data, the last of which had the age `before`.
 fn numbers_tested(claims: bool, k: usize, before: u64, age: u64, exposure: u64, count: u64) -> Line
     requires { ⌜ before ≤ largest ⌝ }
-    ensures { λ r. ⌜ r ≡ tested claims k before (Fields age exposure count) ⌝ }
+    ensures { λ r. ⌜ r ≡ tested claims k before (Numbers age exposure count) ⌝ }
 {
     if follows(k, before, age) {
         if claims {
@@ -107,12 +107,12 @@ fn numbers_tested(claims: bool, k: usize, before: u64, age: u64, exposure: u64, 
     Line::Fault(17)
 }
 
-fn row_tested(claims: bool, k: usize, before: u64, row: Row) -> Line
+fn fields_tested(claims: bool, k: usize, before: u64, fields: Fields) -> Line
     requires { ⌜ before ≤ largest ⌝ }
-    ensures { λ r. ⌜ r ≡ tested claims k before row ⌝ }
+    ensures { λ r. ⌜ r ≡ tested claims k before fields ⌝ }
 {
-    match row {
-        Row::Fields(age, exposure, count) => numbers_tested(
+    match fields {
+        Fields::Numbers(age, exposure, count) => numbers_tested(
             claims,
             k,
             before,
@@ -120,7 +120,7 @@ fn row_tested(claims: bool, k: usize, before: u64, row: Row) -> Line
             exposure,
             count,
         ),
-        Row::Bad => Line::Fault(16),
+        Fields::Bad => Line::Fault(16),
     }
 }
 
@@ -130,8 +130,8 @@ pub fn line_of(claims: bool, k: usize, before: u64, line: &[u8]) -> Line
     ensures { λ r. ⌜ r ≡ lineOf claims k before (now (line .entry)) ⌝ }
 {
     if k < MOST_LINES {
-        let row = row_of(claims, line);
-        return row_tested(claims, k, before, row);
+        let fields = fields_of(claims, line);
+        return fields_tested(claims, k, before, fields);
     }
     Line::Fault(16)
 }

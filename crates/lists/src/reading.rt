@@ -4,7 +4,7 @@ ghost use Prim.Native.Nat.{_+_, _≤_};
 ghost use lib.ListN.{length, set, drop};
 ghost use Rattle.decimals.specs.Whole.{largest};
 ghost use Rattle.lists.specs.Cut.{linesOf};
-ghost use Rattle.lists.specs.Lines.{listedFrom, listedOf, Lists};
+ghost use Rattle.lists.specs.Lines.{listedFrom, listedOf, ListRead};
 use crate::cut::break_from;
 use crate::lines::Line;
 use crate::lines::is_header;
@@ -30,7 +30,7 @@ fn read_lines(
     counts: &mut [u32],
 ) -> Outcome
     requires { ⌜ from ≤ length (now text) + 2 ⌝ }
-    ensures { λ r. ⌜ Lists (listedFrom claims 0 0 (linesOf (drop from (now (text .entry))))) (now (exposures .entry)) (now (counts .entry)) r (now (exposures .exit)) (now (counts .exit)) ⌝ }
+    ensures { λ r. ⌜ ListRead (listedFrom claims 0 0 (linesOf (drop from (now (text .entry))))) (now (exposures .entry)) (now (counts .entry)) r (now (exposures .exit)) (now (counts .exit)) ⌝ }
 {
     let mut at = from;
     let mut k: usize = 0;
@@ -56,7 +56,7 @@ fn read_lines(
 
 // A whole list: how many lines of data it has, or its first fault with the line's number. Exposures and counts are stored up to a fault.
 pub fn read_list(text: &[u8], claims: bool, exposures: &mut [u32], counts: &mut [u32]) -> Outcome
-    ensures { λ r. ⌜ Lists (listedOf claims (linesOf (now (text .entry)))) (now (exposures .entry)) (now (counts .entry)) r (now (exposures .exit)) (now (counts .exit)) ⌝ }
+    ensures { λ r. ⌜ ListRead (listedOf claims (linesOf (now (text .entry)))) (now (exposures .entry)) (now (counts .entry)) r (now (exposures .exit)) (now (counts .exit)) ⌝ }
 {
     let end = break_from(text, 0);
     if is_header(claims, &text[0..end]) {

@@ -1,6 +1,6 @@
 -- The header is the first line; the lines of data come after the CR LF that ends it.
 use Rattle.packs.specs.declared.Outcome.the-variants.{Refused}
-use Rattle.lists.proofs.Walks.{list-headed, list-headless, lists-same, lists-none}
+use Rattle.lists.proofs.Walks.{list-headed, list-headless, read-same-as, read-none}
 use borrow.Author.Needs.{needs}
 use Rattle.lists.proofs.reading.read_list.Statement.{statement}
 use Rattle.lists.proofs.reading.read_list.Tie as tie
@@ -33,10 +33,10 @@ same-length-2 : tie.Need-same-length-2
 same-length-2 c = search needs
 
 returns : tie.Need-returns
-returns c = let a = c .before .before .before .before .before .before .before .before .before .before .before .before .before .before .args in lists-same (list-headed (a .claims) (a .text .now) (c .before .before .before .before .before .before .before .before .before .before .break-from .ensures .0) (c .before .before .before .before .before .before .before .before .is-header .ensures) (c .before .before .before .before .before .before .before .if1 .taken)) (c .before .before .before .before .read-lines .ensures)
+returns c = let a = c .before .before .before .before .before .before .before .before .before .before .before .before .before .before .args in read-same-as (list-headed (a .claims) (a .text .now) (c .before .before .before .before .before .before .before .before .before .before .break-from .ensures .0) (c .before .before .before .before .before .before .before .before .is-header .ensures) (c .before .before .before .before .before .before .before .if1 .taken)) (c .before .before .before .before .read-lines .ensures)
 
 returns-2 : tie.Need-returns-2
-returns-2 c = let a = c .before .before .before .before .before .before .before .args in lists-same (list-headless (a .claims) (a .text .now) (c .before .before .before .break-from .ensures .0) (c .before .is-header .ensures) (c .if1 .left)) (lists-none (Refused 16 1) (a .exposures .now) (a .counts .now))
+returns-2 c = let a = c .before .before .before .before .before .before .before .args in read-same-as (list-headless (a .claims) (a .text .now) (c .before .before .before .break-from .ensures .0) (c .before .is-header .ensures) (c .if1 .left)) (read-none (Refused 16 1) (a .exposures .now) (a .counts .now))
 
 pub read-list-spec : {M : Type 1} → statement M
 read-list-spec =

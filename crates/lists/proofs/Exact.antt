@@ -18,11 +18,11 @@ use Rattle.decimals.specs.Whole.{largest, wholeOf}
 use Rattle.decimals.specs.Promises.{AllDigits}
 use Rattle.decimals.proofs.Digits.{decimals-read-back}
 use Rattle.decimals.proofs.Back.{wholes-read-back, wholes-written-back}
-use Rattle.lists.specs.declared.lines.Row.{Row}
-use Rattle.lists.specs.declared.lines.Row.the-variants.{Fields, Bad}
+use Rattle.lists.specs.declared.lines.Fields.{Fields}
+use Rattle.lists.specs.declared.lines.Fields.the-variants.{Numbers, Bad}
 use Rattle.lists.specs.Cut.{lengthTo, isComma, fieldIn, fieldsAfter}
-use Rattle.lists.specs.Lines.{twoOf, pairOf, threeOf, rowOf}
-use Rattle.lists.specs.Promises.{rowText, InRange, RowsExactly}
+use Rattle.lists.specs.Lines.{twoOf, pairOf, threeOf, fieldsOf}
+use Rattle.lists.specs.Promises.{lineText, InRange, LinesExactly}
 use Rattle.lists.proofs.Cuts.{here-cons, on-cons, at-place}
 
 -- ---- digits and a comma after them
@@ -48,17 +48,17 @@ module _ (x : ℕ) (small : x ≤ largest) (rest : List ℕ) where
       after [] = refl
       after (b ∷ s) = after s
 
-pair-written : (age count : ℕ) → age ≤ largest → count ≤ largest → pairOf (decimal age ++ (44 ∷ decimal count)) ≡ Fields age 0 count
+pair-written : (age count : ℕ) → age ≤ largest → count ≤ largest → pairOf (decimal age ++ (44 ∷ decimal count)) ≡ Numbers age 0 count
 pair-written age count a c =
     ap₂ twoOf (ap wholeOf (first-field age a (decimal count)) ∙ wholes-read-back age a) (ap wholeOf (later-fields age a (decimal count)) ∙ wholes-read-back count c)
 
-written : (claims : Bool) (age exposure count : ℕ) → InRange claims age exposure count → rowOf claims (rowText claims age exposure count) ≡ Fields age exposure count
+written : (claims : Bool) (age exposure count : ℕ) → InRange claims age exposure count → fieldsOf claims (lineText claims age exposure count) ≡ Numbers age exposure count
 written true age exposure count r =
     let rest = decimal exposure ++ (44 ∷ decimal count) in
     ap₂ threeOf (ap wholeOf (first-field age (r .age-fits) rest) ∙ wholes-read-back age (r .age-fits))
     (ap pairOf (later-fields age (r .age-fits) rest) ∙ pair-written exposure count (r .exposure-fits) (r .count-fits))
 written false age exposure count r =
-    pair-written age count (r .age-fits) (r .count-fits) ∙ ap (λ (e : ℕ). Fields age e count) (sym (r .none refl))
+    pair-written age count (r .age-fits) (r .count-fits) ∙ ap (λ (e : ℕ). Numbers age e count) (sym (r .none refl))
 
 -- ---- what was cut at a comma
 pub cut-at : (line : List ℕ) → lengthTo isComma line < length line → line ≡ fieldIn line ++ (44 ∷ fieldsAfter line)
@@ -91,10 +91,10 @@ pub record Pair (line : List ℕ) (age exposure count : ℕ) : Type 0 where
   pub none : exposure ≡ 0
   pub text : line ≡ decimal age ++ (44 ∷ decimal count)
 
-pair-only : (line : List ℕ) (age exposure count : ℕ) → pairOf line ≡ Fields age exposure count → Pair line age exposure count
+pair-only : (line : List ℕ) (age exposure count : ℕ) → pairOf line ≡ Numbers age exposure count → Pair line age exposure count
 pair-only line age exposure count e = go (wholeOf (fieldIn line)) refl (wholeOf (fieldsAfter line)) refl e
   where
-    go : (a : Whole) → wholeOf (fieldIn line) ≡ a → (b : Whole) → wholeOf (fieldsAfter line) ≡ b → twoOf a b ≡ Fields age exposure count → Pair line age exposure count
+    go : (a : Whole) → wholeOf (fieldIn line) ≡ a → (b : Whole) → wholeOf (fieldsAfter line) ≡ b → twoOf a b ≡ Numbers age exposure count → Pair line age exposure count
     go (Number x) p (Number y) q e =
         let first : x ≡ age = cc in
         let none : 0 ≡ exposure = cc in
@@ -112,20 +112,20 @@ pair-only line age exposure count e = go (wholeOf (fieldIn line)) refl (wholeOf 
     go (Number x) p Malformed q e = clash (cc)
     go Malformed p b q e = clash (cc)
 
-no-pair : (line : List ℕ) (age exposure count : ℕ) → pairOf line ≡ Fields age exposure count → line ≡ [] → ⊥
+no-pair : (line : List ℕ) (age exposure count : ℕ) → pairOf line ≡ Numbers age exposure count → line ≡ [] → ⊥
 no-pair line age exposure count e q = starts (decimal age) (decimal count) (sym q ∙ pair-only line age exposure count e .text)
   where
     starts : (s t : List ℕ) → [] ≡ s ++ (44 ∷ t) → ⊥
     starts [] t e = clash (cc)
     starts (b ∷ s) t e = clash (cc)
 
-triple-only : (line : List ℕ) (age exposure count : ℕ) → threeOf (wholeOf (fieldIn line)) (pairOf (fieldsAfter line)) ≡ Fields age exposure count
-    → InRange true age exposure count × (line ≡ rowText true age exposure count)
+triple-only : (line : List ℕ) (age exposure count : ℕ) → threeOf (wholeOf (fieldIn line)) (pairOf (fieldsAfter line)) ≡ Numbers age exposure count
+    → InRange true age exposure count × (line ≡ lineText true age exposure count)
 triple-only line age exposure count e = go (wholeOf (fieldIn line)) refl (pairOf (fieldsAfter line)) refl e
   where
-    go : (a : Whole) → wholeOf (fieldIn line) ≡ a → (r : Row) → pairOf (fieldsAfter line) ≡ r → threeOf a r ≡ Fields age exposure count
-        → InRange true age exposure count × (line ≡ rowText true age exposure count)
-    go (Number x) p (Fields y n z) q e =
+    go : (a : Whole) → wholeOf (fieldIn line) ≡ a → (r : Fields) → pairOf (fieldsAfter line) ≡ r → threeOf a r ≡ Numbers age exposure count
+        → InRange true age exposure count × (line ≡ lineText true age exposure count)
+    go (Number x) p (Numbers y n z) q e =
         let first : x ≡ age = cc in
         let second : y ≡ exposure = cc in
         let last : z ≡ count = cc in
@@ -141,12 +141,12 @@ triple-only line age exposure count e = go (wholeOf (fieldIn line)) refl (pairOf
     go (Number x) p Bad q e = clash (cc)
     go Malformed p r q e = clash (cc)
 
-only : (claims : Bool) (line : List ℕ) (age exposure count : ℕ) → rowOf claims line ≡ Fields age exposure count
-    → InRange claims age exposure count × (line ≡ rowText claims age exposure count)
+only : (claims : Bool) (line : List ℕ) (age exposure count : ℕ) → fieldsOf claims line ≡ Numbers age exposure count
+    → InRange claims age exposure count × (line ≡ lineText claims age exposure count)
 only true line age exposure count e = triple-only line age exposure count e
 only false line age exposure count e =
     let p = pair-only line age exposure count e in
     (record { age-fits = p .age-small; exposure-fits = omega (arith, p .none); count-fits = p .count-small; none = λ f. p .none }, p .text)
 
-pub rows-exactly : RowsExactly
-rows-exactly = record { written = written; only = only }
+pub lines-exactly : LinesExactly
+lines-exactly = record { written = written; only = only }

@@ -2,8 +2,8 @@
 use native.Mathlib.Omega.{arith}
 use Rattle.lists.proofs.Tests.{one-of-three, three-fields}
 use borrow.Author.Needs.{needs}
-use Rattle.lists.proofs.lines.row_of.Statement.{statement}
-use Rattle.lists.proofs.lines.row_of.Tie as tie
+use Rattle.lists.proofs.lines.fields_of.Statement.{statement}
+use Rattle.lists.proofs.lines.fields_of.Tie as tie
 
 comma-in-requires : tie.Need-comma-in-requires
 comma-in-requires c κs = search needs
@@ -50,8 +50,8 @@ pair-of-requires-2 c κs = search needs
 returns-3 : tie.Need-returns-3
 returns-3 c = rw (c .before .if1 .left) (c .pair-of2 .ensures)
 
-pub row-of-spec : {M : Type 1} → statement M
-row-of-spec =
+pub fields-of-spec : {M : Type 1} → statement M
+fields-of-spec =
     tie.close
     (tie.spec
     comma-in-requires

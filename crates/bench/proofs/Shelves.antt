@@ -34,7 +34,7 @@ use Rattle.shelf.specs.Shelf.{forgetReply, Layout, layoutIn, spanOf, fromSociet
 use Rattle.checked.specs.Checked.{checkedOf}
 use Rattle.shelf.specs.Fetched.{mostValue, mostMultiplier, lowestAbove, orSix, proposalOf, keptVerdict, handed, sameCounts, fetchTable, keptCells, keptLinks, keptValues, keptMultipliers, fetchAt, fetchIn, onJob}
 use Rattle.shelf.specs.Calls.{Own, Call, keep, fetch, forget, own, clear, laidSaid, said}
-use Rattle.shelf.proofs.Picked.{and-left, and-right}
+use Rattle.numbers.proofs.Both.{both}
 use Rattle.bench.proofs.Small.{Small, verdict-small, check-small}
 
 refusal-small : (number place : ℕ) → number ≤ 31 → place ≤ 20920 → Small (refusal number place .answer)
@@ -69,8 +69,8 @@ table-small j A room cells links v y h k = go (sameCounts j cells links) refl
   where
     go : (t : Bool) → sameCounts j cells links ≡ t → Small (cond t (handed room v (keptVerdict j v y)) (refusal 12 0) .answer)
     go true e =
-        let c = eqb-true cells (j .cells) (and-left (eqb cells (j .cells)) (eqb links (j .links)) e) in
-        let l = eqb-true links (j .links) (and-right (eqb cells (j .cells)) (eqb links (j .links)) e) in
+        let c = eqb-true cells (j .cells) (both (eqb cells (j .cells)) (eqb links (j .links)) e .0) in
+        let l = eqb-true links (j .links) (both (eqb cells (j .cells)) (eqb links (j .links)) e .1) in
         let few : length v ≤ 120 = omega (arith, A .cells-few) in
         handed-small room v (keptVerdict j v y) few (kept-small j A v y few (omega (arith, A .links-few)))
     go false e = refusal-small 12 0 (omega arith) (omega arith)

@@ -22,7 +22,7 @@ use Rattle.checked.specs.Answers.{Reply, refusal, accepted}
 use Rattle.checked.specs.Checked.{checkedOf, valuesOf, multipliersOf}
 use Rattle.shelf.specs.Fetched.{mostValue, mostMultiplier, proposalOf, keptVerdict, handed, sameCounts, fetchTable}
 use Rattle.checked.proofs.Values.{length-map, map-at}
-use Rattle.shelf.proofs.Picked.{and-left, and-right}
+use Rattle.numbers.proofs.Both.{both}
 use Rattle.shelf.proofs.Judged.{allowed-verdict}
 use Rattle.checked.proofs.Sound.{Packed, accepted-read, values-count, multipliers-count}
 use Rattle.claims.specs.Read.{jobIn, proposalIn, Reads}
@@ -140,7 +140,7 @@ module _ (old proposal : List ℕ) (yes : accepted (checkOf old proposal) ≡ tr
     by-counts true e =
         let c = eqb n (jobIn job .cells) in
         let l = eqb L (jobIn job .links) in
-        fetched-checked job reads (sym (eqb-true n (jobIn job .cells) (and-left c l e))) (sym (eqb-true L (jobIn job .links) (and-right c l e))) room
+        fetched-checked job reads (sym (eqb-true n (jobIn job .cells) (both c l e .0))) (sym (eqb-true L (jobIn job .links) (both c l e .1))) room
     by-counts false e =
         counts-refused (jobIn job) room (tableFrom (checkedOf old proposal)) (ap₂ (sameCounts (jobIn job)) (values-count old proposal packed) (multipliers-count old proposal packed) ∙ e)
 

@@ -34,7 +34,7 @@ use Rattle.counts.specs.Counts.{testShelf, onTested, rowIn}
 use Rattle.counts.proofs.Tests.{passed-ready, refused-some}
 use Rattle.shelf.specs.Shelf.{Layout, layoutIn, spanOf, fetchFrom, fetchReply}
 use Rattle.shelf.specs.Calls.{fetch, own, said}
-use Rattle.shelf.proofs.Picked.{and-left, and-right}
+use Rattle.numbers.proofs.Both.{both}
 use Rattle.slots.proofs.Sizes.{found-below, slot-within, slot-end}
 use Rattle.shelf.proofs.Spans.{Lawful, span-length}
 use Rattle.shelf.proofs.Rows.{rowed-lawful}
@@ -156,8 +156,8 @@ module _ (job : List ℕ) (k : ℕ) (reads : readJob job .outcome ≡ Done k) (r
       go true e m =
           let a = eqb (keptCells x) (its-job .cells) in
           let b = eqb (keptLinks x) (its-job .links) in
-          let ec = eqb-true (keptCells x) (its-job .cells) (and-left a b e) in
-          let el = eqb-true (keptLinks x) (its-job .links) (and-right a b e) in
+          let ec = eqb-true (keptCells x) (its-job .cells) (both a b e .0) in
+          let el = eqb-true (keptLinks x) (its-job .links) (both a b e .1) in
           table-behind (keptValues x) (keptMultipliers x)
           (length-take-le (keptCells x) (drop headSize x) (rw length-drop (omega (arith, ec, allowed .cells-few))) ∙ ec)
           (length-take-le (keptLinks x) (drop valuesEnd x) (rw length-drop (omega (arith, el, allowed .links-few))) ∙ el)

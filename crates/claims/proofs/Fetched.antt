@@ -25,7 +25,7 @@ use Rattle.counts.specs.declared.Row.{Row}
 use Rattle.counts.specs.declared.Row.the-variants.{Right, Wrong}
 use Rattle.counts.specs.Counts.{countIn, testRow, onRow, rowIn}
 use Rattle.shelf.specs.Calls.{Own, Call, keep, fetch, forget, own, clear, said}
-use Rattle.shelf.proofs.Picked.{and-left, and-right}
+use Rattle.numbers.proofs.Both.{both}
 use Rattle.checked.proofs.Sound.{accepted-read, values-count, multipliers-count}
 use Rattle.claims.specs.Read.{jobIn, valuesIn, Reads}
 use Rattle.claims.specs.Lists.{Table, tableFrom, tableFor, isOf, fetched, kept, removed, Lists, onList, keptLists, listsAfter, Kept, emptied, keptAfter}
@@ -120,7 +120,7 @@ counts-same j room t n = go (sameCounts j (length (t .values)) (length (t .multi
     go true e =
         let a = eqb (length (t .values)) (j .cells) in
         let b = eqb (length (t .multipliers)) (j .links) in
-        (eqb-true (length (t .values)) (j .cells) (and-left a b e), eqb-true (length (t .multipliers)) (j .links) (and-right a b e))
+        (eqb-true (length (t .values)) (j .cells) (both a b e .0), eqb-true (length (t .multipliers)) (j .links) (both a b e .1))
     go false e = let z : _≡_ {A = ℕ} 12 0 = sym (ap (λ (r : Reply). r .answer .number) (counts-refused j room t e)) ∙ n in absurd (omega (arith, z))
 
 -- what the check's verdict on the kept proposal and the job presented hands out

@@ -23,7 +23,7 @@ use Rattle.checked.specs.Checked.{checkedOf}
 use Rattle.checked.proofs.Sound.{accepted-read}
 use Rattle.shelf.specs.Fetched.{handed, sameCounts, onJob}
 use Rattle.shelf.specs.Calls.{Call, fetch, own, said}
-use Rattle.shelf.proofs.Picked.{and-left, and-right}
+use Rattle.numbers.proofs.Both.{both}
 use Rattle.claims.specs.Read.{jobIn, Reads}
 use Rattle.claims.specs.Lists.{Table, tableFrom, tableFor, fetched}
 use Rattle.claims.specs.LastKept.{ClearedWith, shelfAfter, held}
@@ -61,7 +61,7 @@ module _ (job : List ℕ) (reads : Reads (readJob job .outcome)) (room : ℕ) (o
       let c = eqb (jobIn old .cells) (jobIn job .cells) in
       let l = eqb (jobIn old .links) (jobIn job .links) in
       verdict-not (checkedOf old proposal .values) (checkOf job proposal)
-      (read-again (sym (eqb-true (jobIn old .cells) (jobIn job .cells) (and-left c l e))) (sym (eqb-true (jobIn old .links) (jobIn job .links) (and-right c l e))))
+      (read-again (sym (eqb-true (jobIn old .cells) (jobIn job .cells) (both c l e .0))) (sym (eqb-true (jobIn old .links) (jobIn job .links) (both c l e .1))))
   by-counts false e = λ n. omega (arith, n)
 
   table-not : NotSix (tableFor (jobIn job) room (tableFrom (checkedOf old proposal)))

@@ -11,17 +11,10 @@ use lib.ListN.{length, getD, drop, drop-of-length-le}
 use lib.Seq.{drop-cons}
 use Rattle.numbers.specs.Choice.{if_then_else_}
 use Rattle.numbers.proofs.Clash.{clash}
+use Rattle.numbers.proofs.Both.{both}
 use Rattle.decimals.specs.declared.reading.Whole.{Whole}
 use Rattle.decimals.specs.declared.reading.Whole.the-variants.{Number, Malformed}
 use Rattle.decimals.specs.Whole.{largest, isDigit, digitAfter, onDigit, valueFrom, leadingZero, wholeOf}
-
--- a test made of two holds where both do
-pub both : (a b : Bool) → a && b ≡ true → (a ≡ true) × (b ≡ true)
-both true b e = (refl, e)
-both false b e = (e, never b)
-  where
-    never : (t : Bool) → t ≡ true
-    never t = clash (cc)
 
 -- ---- one byte
 pub digit-low : (before b : ℕ) → b < 48 → Malformed ≡ digitAfter before b

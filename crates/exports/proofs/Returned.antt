@@ -15,7 +15,7 @@ use Rattle.packs.specs.declared.Outcome.the-variants.{Done, Refused}
 use Rattle.decimals.specs.Decimal.{decimal}
 use Rattle.decimals.specs.Whole.{largest}
 use Rattle.decimals.proofs.Digits.{decimals-read-back}
-use Rattle.decimals.proofs.Wholes.{both}
+use Rattle.numbers.proofs.Both.{both}
 use Rattle.lists.specs.Cut.{lineEnd, linesOf}
 use Rattle.lists.specs.Lines.{ratesHeader, listedOf}
 use Rattle.exports.specs.Exports.{exportLine, exportLines, exportText, allUpto, Rated, noRates, handedRates, ratesOf}

@@ -18,7 +18,7 @@ use Rattle.decimals.specs.Puts.{Puts, Room}
 use Rattle.decimals.specs.Whole.{largest}
 use Rattle.decimals.proofs.Digits.{digits-most}
 use Rattle.decimals.proofs.Stores.{puts-then, puts-same, puts-length, room-first, room-then, room-same}
-use Rattle.decimals.proofs.Wholes.{both}
+use Rattle.numbers.proofs.Both.{both}
 use Rattle.lists.specs.Cut.{lineEnd}
 use Rattle.lists.specs.Lines.{ratesHeader, mostLines}
 use Rattle.exports.specs.Exports.{exportLine, exportLines, exportText, allUpto, exportable, exportOf}

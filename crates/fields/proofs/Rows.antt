@@ -6,6 +6,7 @@ use native.Mathlib.Omega.{arith}
 use borrow.Author.Tests.{leb-true, ltb-true, ltb-false, eqb-true}
 use lib.Dec.{leb, ltb, eqb}
 use Rattle.numbers.proofs.Clash.{clash}
+use Rattle.numbers.proofs.Both.{both}
 use Rattle.fields.specs.declared.Field.{Field}
 use Rattle.fields.specs.declared.Field.the-variants.{Society, Job, Count, Order, Rows, Columns, OrderDown, OrderAcross, SecondConstant, Constant, Tolerance, Crude, Weight, Floor, Ceiling, LinkCount, TermCount, Cell, Coefficient, Bound, Value, Multiplier, End}
 use Rattle.fields.specs.declared.Step.{Step}
@@ -30,11 +31,6 @@ within-both least most x e = go (leb least x) refl e
     go : (o : Bool) → leb least x ≡ o → (o && leb x most) ≡ true → (least ≤ x) × (x ≤ most)
     go true q e = (leb-true least x q, leb-true x most e)
     go false q e = clash (cc)
-
--- a test of two parts that was passed
-both : (a b : Bool) → (a && b) ≡ true → (a ≡ true) × (b ≡ true)
-both true b e = (refl, e)
-both false b e = clash (cc)
 
 pub record OrderTold (length x : ℕ) : Type 0 where
   pub some : 1 ≤ x

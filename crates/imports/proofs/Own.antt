@@ -20,7 +20,7 @@ use Rattle.packs.specs.declared.Outcome.{Outcome}
 use Rattle.packs.specs.declared.Outcome.the-variants.{Done, Refused as Refuses}
 use Rattle.packs.specs.Writing.{onStep, onPut, writeFrom}
 use Rattle.jobs.specs.Packs.{writeJob}
-use Rattle.decimals.proofs.Wholes.{both}
+use Rattle.numbers.proofs.Both.{both}
 use Rattle.imports.specs.declared.Given.{Given}
 use Rattle.imports.specs.Imports.{crudeOf, weightOf, wordUpto, largestWord, largestOrder, cellOf, cellsOf, headOf, wordsOf}
 use Rattle.imports.proofs.Made.{cells-cons, cells-nil, words-parts}

@@ -11,7 +11,7 @@ use lib.Dec.{eqb}
 use lib.ListN.{length, getD, drop, length-drop, drop-of-length-le, List·getD-eq-default}
 use lib.Seq.{drop-cons, getD-drop}
 use Rattle.numbers.proofs.Clash.{clash}
-use Rattle.decimals.proofs.Wholes.{both}
+use Rattle.numbers.proofs.Both.{both}
 use Rattle.lists.specs.Cut.{lengthTo, isBreak, isComma, lineIn, linesAfter, linesIn, linesOf, sameBytes}
 
 -- ---- one byte after another

@@ -18,7 +18,7 @@ use Rattle.lists.specs.declared.lines.Fields.the-variants.{Numbers, Bad}
 use Rattle.lists.specs.Cut.{linesOf, sameBytes}
 use Rattle.lists.specs.Lines.{mostLines, headerOf, fieldsOf, inSequence, tested, lineOf, Listed, endsWith, listedFrom, listedOf}
 use Rattle.lists.specs.Promises.{lineText, InRange, Listing, none, line, Faulty, beyond, malformed, sequence, deaths, FirstFault, NoHeader, FaultOf, LowestFault}
-use Rattle.decimals.proofs.Wholes.{both}
+use Rattle.numbers.proofs.Both.{both}
 use Rattle.lists.proofs.Cuts.{bytes-same, bytes-equal}
 use Rattle.lists.proofs.Tests.{sequence-first, sequence-later}
 use Rattle.lists.proofs.Walks.{listed-end}

@@ -11,7 +11,7 @@ use lib.ListN.{length, take, drop, length-drop, length-append, drop-of-length-le
 use lib.Seq.{take-at, take-all, drop-drop}
 use Rattle.numbers.proofs.Clash.{clash}
 use Rattle.decimals.specs.Promises.{AllDigits}
-use Rattle.decimals.proofs.Wholes.{both}
+use Rattle.numbers.proofs.Both.{both}
 use Rattle.lists.specs.Cut.{lineEnd, lengthTo, isBreak, lineIn, linesAfter, linesOf}
 use Rattle.lists.specs.Promises.{joined, LinesJoined}
 use Rattle.lists.proofs.Cuts.{here-cons, on-cons, at-place, lines-none, lines-some}

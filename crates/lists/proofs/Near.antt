@@ -10,7 +10,7 @@ use Rattle.numbers.specs.Choice.{if_then_else_}
 use Rattle.numbers.proofs.Clash.{clash}
 use Rattle.packs.specs.declared.Outcome.{Outcome}
 use Rattle.packs.specs.declared.Outcome.the-variants.{Done, Refused}
-use Rattle.decimals.proofs.Wholes.{both}
+use Rattle.numbers.proofs.Both.{both}
 use Rattle.lists.specs.declared.lines.Line.{Line}
 use Rattle.lists.specs.declared.lines.Line.the-variants.{Entry, Fault}
 use Rattle.lists.specs.declared.lines.Fields.{Fields}

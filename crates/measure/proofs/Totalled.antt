@@ -1,7 +1,6 @@
 -- The loop over the cells: each cell term is within its range, and the tally is that of those that were passed.
 use Prim.Native.Nat.{ℕ, _+_, _≤_, _<_}
 use mathlib.Core.Path.{_≡_, refl, sym, ap, subst, _∙_}
-use mathlib.Core.Bool.{Bool, true, false, _&&_}
 use mathlib.Core.List.{List}
 use native.Mathlib.Nat as N
 use native.Mathlib.Omega.{arith}
@@ -15,7 +14,7 @@ use Rattle.whole.proofs.Magnitude.{bound-+}
 use Rattle.whole.proofs.Solve.{ring, _⊕_, _≗_}
 use Rattle.whole.proofs.Fits.{Holds, small-fits, gives}
 use Rattle.certificate.proofs.Terms.{cell-terms-not-negative}
-use Rattle.numbers.proofs.Clash.{clash}
+use Rattle.numbers.proofs.Both.{both}
 use Rattle.jobs.specs.Words.{wordAt, cellsOf, linksOf, jobOf}
 use Rattle.tally.specs.declared.term.Supplied.{Supplied}
 use Rattle.tally.specs.declared.Tally.{Tally}
@@ -118,10 +117,6 @@ module _ {ws ps : List ℤ} (G : Given ws ps) where
 
 -- ---- the loop over the cells
 
-box-both : (a b : Bool) → (a && b) ≡ true → (a ≡ true) × (b ≡ true)
-box-both true b e = (refl, e)
-box-both false b e = clash (cc)
-
 pub totalling-by : {ws ps : List ℤ} {n : ℕ} {parts : List ℤ} {start start′ : ℤ} → start ≡ start′ → Totalling ws ps n parts start → Totalling ws ps n parts start′
 totalling-by {ws} {ps} {n} {parts} e H = subst (λ (x : ℤ). Totalling ws ps n parts x) e H
 
@@ -140,7 +135,7 @@ module _ {ws ps : List ℤ} {n : ℕ} {parts : List ℤ} {start : ℤ} (H : Tota
 
   box-of : (i : ℕ) → i < n → (jobOf ws .floor i ≤ℤ wordAt ps i) × (wordAt ps i ≤ℤ jobOf ws .ceiling i)
   box-of i h =
-      let b = box-both (leZ (jobOf ws .floor i) (wordAt ps i)) (leZ (wordAt ps i) (jobOf ws .ceiling i)) (H .boxes i h) in
+      let b = both (leZ (jobOf ws .floor i) (wordAt ps i)) (leZ (wordAt ps i) (jobOf ws .ceiling i)) (H .boxes i h) in
       (leZ-yes (true-T (b .0)), leZ-yes (true-T (b .1)))
 
   pub cells-run : Runs (jobOf ws .tolerance) start (cellTermOn ws ps) n

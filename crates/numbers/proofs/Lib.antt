@@ -1,5 +1,6 @@
 -- The laws behind the functions of this crate. Each file says what it is for.
 pub mod Clash
+pub mod Both
 pub mod Reading
 pub mod Bytes
 pub mod Climb

@@ -4,7 +4,6 @@ use mathlib.Core.Bool.{Bool, true, false, cond, _&&_}
 use mathlib.Core.List.{List, _++_}
 use Prim.Native.Nat.{ℕ, suc, _+_, _*_}
 use native.Mathlib.Nat.{mul-zero}
-use native.Mathlib.Omega.{arith}
 use lib.Dec.{eqb}
 use lib.ListN.{length, take, drop, getD}
 use lib.Seq.{getD-drop, drop-drop}
@@ -103,12 +102,3 @@ module _ (j : Job) (room at : ℕ) (s : List ℕ) where
       → handed room (take n (drop (at + headSize) s)) (keptVerdict j (take n (drop (at + headSize) s)) (take links (drop (at + valuesEnd) s))) ≡ fetchAt j room (drop at s)
   unfolding fetchTable
   counts-same n links en el a b = sym (at-table ∙ ap₂ {C = Reply} tableAt a b ∙ rw (eq-eqb n (j .cells) en, eq-eqb links (j .links) el))
-
--- ---- two tests that both pass
-pub and-left : (a b : Bool) → a && b ≡ true → a ≡ true
-and-left true b e = refl
-and-left false b e = e
-
-pub and-right : (a b : Bool) → a && b ≡ true → b ≡ true
-and-right true b e = e
-and-right false b e = let z : _≡_ {A = ℕ} 0 1 = cc in absurd (omega arith)

@@ -6,7 +6,6 @@ use lib.ListN.{length, getD}
 use borrow.Author.Tests.{le-leb, lt-leb}
 use Rattle.measure.proofs.Lowest.{Passed, lowest-all, lowest-at, passed-next, passed-start}
 use Rattle.shelf.specs.Fetched.{upTo}
-use borrow.Author.Needs.{needs}
 use Rattle.shelf.proofs.kept.lowest_above.Statement.{statement}
 use Rattle.shelf.proofs.kept.lowest_above.Tie as tie
 

@@ -20,7 +20,7 @@ from house.expect import outcome
 from packs import Refused, job_of, number, proposal_of
 from verdict import verdict
 
-DAMAGED, SEED = 1000, 16
+DAMAGED, SEED = 600, 16
 USUAL = {'society': 0, 'job': 1, 'divisor': 100, 'order': 2, 'constant': 100, 'tolerance': 10 ** 15, 'floor': 0, 'ceiling': 10 ** 6}
 ALLOWED = {'society': '0 to 7', 'job': '0 to 4294967295', 'divisor': '1 or more',
            'order': '0 to 4, where 0 is the house order 2, and less than the lines of data', 'constant': '1 to 1000', 'tolerance': '0 to 1000000000000000',

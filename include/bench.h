@@ -1,9 +1,10 @@
 /* bench.h: the bench, for the portal and any other C or C++ program.
  *
  * The bench reads a job (one society's table to be graduated: a line of ages, or a grid for a select table), checks a proposed table with its
- * multipliers, makes a proposal of its own, and keeps accepted tables on a shelf that the caller lends. It makes jobs of comma lists, and comma lists
+ * multipliers, makes proposals of its own, and keeps accepted tables on a shelf that the caller lends. It makes jobs of comma lists, and comma lists
  * of tables. Document 01 has the rules, with request W-205 for grids, W-203 for a fetch that checks, W-209 for counts of slots, W-202 for the terms of
- * a gap, W-208 for how far off a rate can be, W-213 for jobs written in reverse and W-201 for comma lists; this page has what a caller needs.
+ * a gap, W-208 for how far off a rate can be, W-213 for jobs written in reverse, W-201 for comma lists and W-207 for proposals that honour links; this
+ * page has what a caller needs.
  *
  * WHAT EVERY CALL DOES
  *
@@ -13,7 +14,7 @@
  *     answer[0] number    answer[1] place    answer[2] loss F    answer[3] gap G
  *
  * Every call returns 32 times the place plus the number; BENCH_NUMBER and BENCH_PLACE take the two apart. Check, keep and fetch give the
- * table's F and G when done; they are 0 with every refusal and at every other call.
+ * table's F and G when done, and bench_propose_linked the count of its passes in the place of F; they are 0 with every refusal and at every other call.
  *
  * A refusal (any number but 0) changes nothing that was lent, the answer slice excepted. A success leaves an output beyond what it writes
  * as it was. No call reads or writes anything but what it is lent; none allocates, prints, waits, keeps a pointer or has a state of its own.
@@ -40,26 +41,29 @@
  *     8    link broken                                             lowest such link
  *     9    gap above the tolerance                                 that of the largest term of the gap: a cell's number, or n + the
  *                                                                  link's number; the lowest of those that are equal
- *     10   house proposal: data too thin                           cell
+ *     10   either house proposal: data too thin                    cell
  *     11   forget: society above 7                                 0
  *     12   fetch or forget: nothing kept under that number         0
  *          fetch: what is kept has another count of cells
  *          or links than the job
  *     13   answer slice not 4 words, shelf not 9,192,              4, 9,192, or
  *          or output too short                                     the length needed, in the output's own elements
+ *     14   proposal that honours links: no pass within the number  that number
+ *          given is accepted
  *     16   list: line malformed, out of range, beyond the 120      line; the header is line 1
  *     17   list: age not the one before it plus 1                  line
  *     18   import: deaths above exposure                           line
  *     19   import: divisor 0                                       0
- *     20   house proposal: a grid of more than 12 columns          0
+ *     20   either house proposal: a grid of more than 12 columns   0
+ *     21   proposal that honours links: passes outside 1..200      0
  *     22   counts of slots not allowed: at clear those handed in,  lowest society whose count is not 1 to 16; if each is,
  *          at keep, fetch and forget those found on the shelf      8 for a total above 32
  *
- * The first that applies is given, in this order: answer slice, shelf length, 22; then the job pack from its first byte to its last (1 and 2
+ * The first that applies is given, in this order: answer slice, shelf length, 22, or 21; then the job pack from its first byte to its last (1 and 2
  * for each number, 3 after each ceiling, 4 after the last cell, 5 after each term, spare bytes last); then 6, 7, 8, 9, or for terms 6, 7, 8, or for
- * fetch 12, 6, 7, 8, 9, or for propose 20, 10; for forget, which takes no pack, 11, then 12; for import 19, then line by line 16, 17, 18, then 2, 3, 4 of
- * the pack that it would write; for export 2; for rates line by line 16, 17, then 2; and the output's length last. A wrong answer slice is not written
- * to: only the returned number tells it.
+ * fetch 12, 6, 7, 8, 9, or for propose 20, 10, and for propose_linked 14 after them; for forget, which takes no pack, 11, then 12; for import 19, then
+ * line by line 16, 17, 18, then 2, 3, 4 of the pack that it would write; for export 2; for rates line by line 16, 17, then 2; and the output's length
+ * last. A wrong answer slice is not written to: only the returned number tells it.
  *
  * PACKS
  *
@@ -194,9 +198,10 @@ extern "C" {
  *      allowed, at every call on the shelf
  *   5  what holds a table back: the place of 9, which was always 0, is that of the largest term of the gap; bench_terms, a ninth call, tells all terms
  *   6  comma lists: bench_import, bench_export and bench_rates, three calls more, with 16 to 19 for what is wrong with a list
+ *   7  proposals that honour links: bench_propose_linked, a call more, with 14 where no pass is accepted and 21 for a number of passes not allowed
  *
- * Moving from version 5: every call that there was answers as it did, so nothing has to be changed or kept again. */
-#define BENCH_VERSION 6
+ * Moving from version 6: every call that there was answers as it did, so nothing has to be changed or kept again. */
+#define BENCH_VERSION 7
 
 /* No call needs more stack than this, and none on a job that is no grid more than the second. */
 #define BENCH_STACK_BYTES 65536
@@ -208,10 +213,13 @@ extern "C" {
 #define BENCH_MOST_TERMS 4
 #define BENCH_MOST_SOCIETY (BENCH_SOCIETIES - 1) /* societies are numbered from 0 */
 
+/* The most passes that bench_propose_linked may be allowed; the least is 1. */
+#define BENCH_MOST_PASSES 200
+
 /* The longest packs and lists: nothing longer is ever accepted, and an output of that length is never too short. */
 #define BENCH_MOST_JOB_BYTES 3586      /* a job pack: the output of bench_write */
 #define BENCH_MOST_JOB_WORDS 2092      /* a job's numbers: the output of bench_read */
-#define BENCH_MOST_PROPOSAL_BYTES 1160 /* a proposal pack */
+#define BENCH_MOST_PROPOSAL_BYTES 1160 /* a proposal pack: the output of bench_propose_linked */
 #define BENCH_MOST_HOUSE_BYTES 520     /* a house proposal, whose multipliers are all 0: the output of bench_propose */
 #define BENCH_MOST_VALUES 120          /* a table's values: the output of bench_fetch */
 #define BENCH_MOST_TERM_WORDS 840      /* the terms of a gap, 3 words for each cell and link: the output of bench_terms */
@@ -235,11 +243,13 @@ enum bench_number {
     BENCH_NO_SUCH_SOCIETY = 11,
     BENCH_NOTHING_KEPT = 12,
     BENCH_WRONG_LENGTH = 13,
+    BENCH_NO_PASS_ACCEPTED = 14,
     BENCH_BAD_LINE = 16,
     BENCH_AGE_NOT_NEXT = 17,
     BENCH_DEATHS_ABOVE_EXPOSURE = 18,
     BENCH_NO_DIVISOR = 19,
     BENCH_GRID_TOO_WIDE = 20,
+    BENCH_BAD_PASSES = 21,
     BENCH_BAD_COUNTS = 22
 };
 
@@ -274,6 +284,15 @@ uint64_t bench_terms(const uint8_t *job, size_t job_bytes, const uint8_t *propos
  * 20. */
 uint64_t bench_propose(const uint8_t *job, size_t job_bytes, uint8_t *out, size_t out_bytes,
                        uint64_t *answer, size_t answer_words);
+
+/* Makes a proposal that honours the job's links, and writes it to `out` as a proposal pack with its multipliers. It begins with the house's values and all
+ * multipliers 0; a pass improves each link's multiplier in turn (Hildreth's method), and after each pass the rounded table is checked. The first that the
+ * check accepts is the answer. `passes` is the most that may be made, 1..BENCH_MOST_PASSES. Done: bench_check accepts what was written; the place is the pack's
+ * bytes, and answer[2], where F stands elsewhere, is the count of passes made: the check tells F and G. A job without links, or whose house proposal is
+ * accepted, has count 1. 14: none of the passes allowed gives a table within the tolerance; a larger number may, and never changes any other answer. A grid may
+ * have 12 columns at most. docs/LINKED.md fixes every operation. Numbers: 0 to 5, 10, 13, 14, 20, 21. */
+uint64_t bench_propose_linked(const uint8_t *job, size_t job_bytes, uint64_t passes, uint8_t *out, size_t out_bytes,
+                              uint64_t *answer, size_t answer_words);
 
 /* Checks as bench_check does and, if it accepts, keeps the table on the shelf among its society's own, as many as its count: in the slot that has the
  * job already, else in the lowest empty one, else slot 0's table goes and the others move down by one, so that with a count of 1 the new table takes

@@ -1,47 +1,56 @@
 -- The values of a job follow from its factor, by what the job is.
 use Prim.Native.Nat.{ℕ, _≤_}
-use mathlib.Core.Path.{_≡_, sym, ap, _∙_}
+use mathlib.Core.Path.{_≡_, sym, ap, subst, _∙_}
 use mathlib.Core.Bool.{Bool, true, false}
 use mathlib.Core.List.{List}
 use native.Mathlib.Nat as N
 use native.Mathlib.Omega.{arith}
 use lib.Ieee.{Float}
-use lib.ListN.{length}
+use lib.ListN.{length, replicate}
 use Rattle.numbers.specs.Choice.{if_then_else_}
 use Rattle.jobs.specs.Job.{Job}
 use Rattle.factor.specs.declared.Ending.{Ending}
-use Rattle.factor.specs.Factor.{Band, startOf, factorOf}
+use Rattle.factor.specs.Factor.{Band, Factor, startOf, factorFrom, factorOf}
 use Rattle.factor.specs.Places.{Starts, Placed}
 use Rattle.factor.specs.Solve.{solvedBy}
 use Rattle.factor.proofs.Turns.{start-rises, start-wider}
-use Rattle.house.specs.Band.{bandOf, rightOf}
-use Rattle.house.specs.Factoring.{Solved, rowsOf, solvedWith}
+use Rattle.house.specs.Band.{zero64, bandOf, rightOf}
+use Rattle.house.specs.Factoring.{Solved, Solves, rowsOf, solvedWith}
 use Rattle.house.specs.Grid.{reach, gridRows, gridSolved}
 use Rattle.house.specs.Proposal.{lineSolved, solvedOf}
 
 -- a factor and the solve with it, by how the factoring ended
-pub solved-holds : (room : ℕ) (band : Band) (z n : ℕ) (right : List Float) {e r : Ending} {d l v : List Float}
-    → (e ≡ factorOf room band z n .ending) × (d ≡ factorOf room band z n .pivots) × (l ≡ factorOf room band z n .multipliers)
-    → (r ≡ e) × (v ≡ solvedBy z n right d l e) → (r ≡ solvedWith room band z n right .ending) × (v ≡ solvedWith room band z n right .values)
+abbrev Makes : Factor → Ending → (d l : List Float) → Type 0
+Makes f e d l = (e ≡ f .ending) × (d ≡ f .pivots) × (l ≡ f .multipliers)
+
+pub solved-holds : (room : ℕ) (band : Band) (z n : ℕ) (right : List Float) {e r : Ending} {d l v : List Float} → Makes (factorOf room band z n) e d l
+    → (r ≡ e) × (v ≡ solvedBy z n right d l e) → Solves (solvedWith room band z n right) r d l v
 unfolding solvedWith
-solved-holds room band z n right h k = (k .0 ∙ h .0, k .1 ∙ rw (h .0, h .1, h .2))
+solved-holds room band z n right h k = (k .0 ∙ h .0, h .1, h .2, k .1 ∙ rw (h .0, h .1, h .2))
+
+-- for the same solve by another name
+pub solves-same : {s t : Solved} → s ≡ t → {e : Ending} {d l v : List Float} → Solves s e d l v → Solves t e d l v
+solves-same p {e} {d} {l} {v} h = subst (λ (s : Solved). Solves s e d l v) p h
+
+-- a factor that was made in lists of zeros
+made-in : (room : ℕ) (band : Band) (z n : ℕ) {e : Ending} {d₀ l₀ d l : List Float} → d₀ ≡ replicate 120 zero64 → l₀ ≡ replicate room zero64
+    → Makes (factorFrom band z n 0 d₀ l₀) e d l → Makes (factorOf room band z n) e d l
+made-in room band z n {e} {d₀} {l₀} {d} {l} ed el h = subst (λ (f : Factor). Makes f e d l) (λ t. factorFrom band z n 0 (ed t) (el t)) h
 
 -- the same for the code's own names of a line and of a grid
-pub line-holds : (j : Job) {a : List (List Float)} {n z : ℕ} {b d l v : List Float} {e r : Ending} → a ≡ bandOf j → n ≡ j .cells → z ≡ j .order → b ≡ rightOf j
-    → (e ≡ factorOf 480 (rowsOf a) z n .ending) × (d ≡ factorOf 480 (rowsOf a) z n .pivots) × (l ≡ factorOf 480 (rowsOf a) z n .multipliers)
-    → (r ≡ e) × (v ≡ solvedBy z n b d l e) → (r ≡ lineSolved j .ending) × (v ≡ lineSolved j .values)
+pub line-holds : (j : Job) {a : List (List Float)} {n z : ℕ} {b d₀ l₀ d l v : List Float} {e r : Ending} → a ≡ bandOf j → n ≡ j .cells → z ≡ j .order → b ≡ rightOf j
+    → d₀ ≡ replicate 120 zero64 → l₀ ≡ replicate 480 zero64 → Makes (factorFrom (rowsOf a) z n 0 d₀ l₀) e d l
+    → (r ≡ e) × (v ≡ solvedBy z n b d l e) → Solves (lineSolved j) r d l v
 unfolding lineSolved
-line-holds j {a} {n} {z} {b} ea en ez eb f k =
-    let h = solved-holds 480 (rowsOf a) z n b f k in
-    (h .0 ∙ (λ t. solvedWith 480 (rowsOf (ea t)) (ez t) (en t) (eb t) .ending), h .1 ∙ (λ t. solvedWith 480 (rowsOf (ea t)) (ez t) (en t) (eb t) .values))
+line-holds j {a} {n} {z} {b} ea en ez eb ed el f k =
+    solves-same (λ t. solvedWith 480 (rowsOf (ea t)) (ez t) (en t) (eb t)) (solved-holds 480 (rowsOf a) z n b (made-in 480 (rowsOf a) z n ed el f) k)
 
-pub grid-holds : (j : Job) {n z : ℕ} {b d l v : List Float} {e r : Ending} → n ≡ j .cells → z ≡ reach j → b ≡ rightOf j
-    → (e ≡ factorOf 4584 (gridRows j) z n .ending) × (d ≡ factorOf 4584 (gridRows j) z n .pivots) × (l ≡ factorOf 4584 (gridRows j) z n .multipliers)
-    → (r ≡ e) × (v ≡ solvedBy z n b d l e) → (r ≡ gridSolved j .ending) × (v ≡ gridSolved j .values)
+pub grid-holds : (j : Job) {n z : ℕ} {b d₀ l₀ d l v : List Float} {e r : Ending} → n ≡ j .cells → z ≡ reach j → b ≡ rightOf j
+    → d₀ ≡ replicate 120 zero64 → l₀ ≡ replicate 4584 zero64 → Makes (factorFrom (gridRows j) z n 0 d₀ l₀) e d l
+    → (r ≡ e) × (v ≡ solvedBy z n b d l e) → Solves (gridSolved j) r d l v
 unfolding gridSolved
-grid-holds j {n} {z} {b} en ez eb f k =
-    let h = solved-holds 4584 (gridRows j) z n b f k in
-    (h .0 ∙ (λ t. solvedWith 4584 (gridRows j) (ez t) (en t) (eb t) .ending), h .1 ∙ (λ t. solvedWith 4584 (gridRows j) (ez t) (en t) (eb t) .values))
+grid-holds j {n} {z} {b} en ez eb ed el f k =
+    solves-same (λ t. solvedWith 4584 (gridRows j) (ez t) (en t) (eb t)) (solved-holds 4584 (gridRows j) z n b (made-in 4584 (gridRows j) z n ed el f) k)
 
 -- there is room for a line's multipliers, and for a grid's
 room-for : (y places : ℕ) → startOf y 120 ≤ places → {z n : ℕ} {starts : List ℕ} {l : List Float} → Starts z n starts → n ≤ 120 → z ≤ y → length l ≡ places → Placed z n starts l
@@ -57,15 +66,20 @@ unfolding startOf
 grid-places = room-for 48 4584 (omega arith)
 
 -- a job, by what it is
-module _ (j : Job) {e : Ending} {v : List Float} where
-  pub solved-line : j .grid ≡ false → (e ≡ lineSolved j .ending) × (v ≡ lineSolved j .values) → (e ≡ solvedOf j .ending) × (v ≡ solvedOf j .values)
+module _ (j : Job) where
+  pub line-is : j .grid ≡ false → lineSolved j ≡ solvedOf j
   unfolding solvedOf
-  solved-line g h =
-      let p : lineSolved j ≡ (if j .grid then gridSolved j else lineSolved j) = ap {B = Solved} (λ (b : Bool). if b then gridSolved j else lineSolved j) (sym g) in
-      (h .0 ∙ ap {B = Ending} (λ (s : Solved). s .ending) p, h .1 ∙ ap {B = List Float} (λ (s : Solved). s .values) p)
+  line-is g = ap {B = Solved} (λ (b : Bool). if b then gridSolved j else lineSolved j) (sym g)
 
-  pub solved-grid : j .grid ≡ true → (e ≡ gridSolved j .ending) × (v ≡ gridSolved j .values) → (e ≡ solvedOf j .ending) × (v ≡ solvedOf j .values)
+  pub grid-is : j .grid ≡ true → gridSolved j ≡ solvedOf j
   unfolding solvedOf
-  solved-grid g h =
-      let p : gridSolved j ≡ (if j .grid then gridSolved j else lineSolved j) = ap {B = Solved} (λ (b : Bool). if b then gridSolved j else lineSolved j) (sym g) in
-      (h .0 ∙ ap {B = Ending} (λ (s : Solved). s .ending) p, h .1 ∙ ap {B = List Float} (λ (s : Solved). s .values) p)
+  grid-is g = ap {B = Solved} (λ (b : Bool). if b then gridSolved j else lineSolved j) (sym g)
+
+  abbrev Told : Solved → Ending → List Float → Type 0
+  Told s e v = (e ≡ s .ending) × (v ≡ s .values)
+
+  pub solved-line : j .grid ≡ false → {e : Ending} {v : List Float} → Told (lineSolved j) e v → Told (solvedOf j) e v
+  solved-line g {e} {v} h = subst (λ (s : Solved). Told s e v) (line-is g) h
+
+  pub solved-grid : j .grid ≡ true → {e : Ending} {v : List Float} → Told (gridSolved j) e v → Told (solvedOf j) e v
+  solved-grid g {e} {v} h = subst (λ (s : Solved). Told s e v) (grid-is g) h

@@ -1,6 +1,7 @@
 -- A line's band and its step, in the forms of the code (document 01, "Where each form goes"): five entries a row, four multipliers a row. Then what
 -- follows from a factor, of a line or of a grid.
 use Prim.Native.Nat.{ℕ}
+use mathlib.Core.Path.{_≡_}
 use mathlib.Core.List.{List, []}
 use lib.ListN.{getD, replicate}
 use lib.Seq.{sets}
@@ -20,13 +21,24 @@ abbrev pub answered : Made → Step
 answered m =
     record { pivot = judged (m .pivot); row = record { pivot = m .pivot; multipliers = sets (replicate 4 zero64) 0 (m .multipliers) } }
 
--- How the factoring ends, and the values before rounding; where it is thin, the right side as it was.
+-- How the factoring ends, the rows that it made, and the values before rounding; where it is thin, the right side as it was.
 pub record Solved : Type 0 where
   pub ending : Ending
+  pub pivots : List Float
+  pub multipliers : List Float
   pub values : List Float
 
 -- Of a band z wide of n cells, with room for so many multipliers.
 unfoldable pub solvedWith : (room : ℕ) → Band → (z n : ℕ) (right : List Float) → Solved
 solvedWith room band z n right =
     let f = factorOf room band z n in
-    record { ending = f .ending; values = solvedBy z n right (f .pivots) (f .multipliers) (f .ending) }
+    record {
+      ending = f .ending;
+      pivots = f .pivots;
+      multipliers = f .multipliers;
+      values = solvedBy z n right (f .pivots) (f .multipliers) (f .ending);
+    }
+
+-- What a solve answers, and what it leaves in the lists that it was lent.
+abbrev pub Solves : Solved → Ending → (d l v : List Float) → Type 0
+Solves s e d l v = (e ≡ s .ending) × (d ≡ s .pivots) × (l ≡ s .multipliers) × (v ≡ s .values)

@@ -1,4 +1,5 @@
-// The factor of a line's band, row after row, up to the first thin pivot.
+// The factor of a line's band, row after row, up to the first thin pivot, and the values before rounding.
+use crate::band::band;
 use factor::CELLS;
 use factor::Ending;
 use factor::Pivot;
@@ -6,20 +7,26 @@ use factor::STARTS;
 use factor::factor_row;
 use factor::lowest_of;
 use factor::put_row;
+use factor::solve::solve_whole;
 use factor::start_at;
 use factor::value_of;
+use jobs::words::cells_of;
 ghost use mathlib.Core.Path.{_≡_};
 ghost use Prim.Native.Nat.{_+_, _-_, _≤_, _<_};
-ghost use lib.ListN.{length, take};
+ghost use lib.ListN.{length, replicate, take};
 ghost use lib.Seq.{sets};
 ghost use Rattle.factor.specs.Factor.{lowest, startOf, factorStep, factorFrom};
-ghost use Rattle.factor.specs.Places.{Placed};
-ghost use Rattle.house.specs.Factoring.{rowsOf, answered};
+ghost use Rattle.factor.specs.Places.{Starts, Placed};
+ghost use Rattle.jobs.specs.Words.{jobOf, cellsOf, orderOf};
+ghost use Rattle.house.specs.Known.{Known};
+ghost use Rattle.house.specs.Band.{zero64, rightOf};
+ghost use Rattle.house.specs.Factoring.{rowsOf, answered, Solves};
+ghost use Rattle.house.specs.Proposal.{lineSolved};
 
 // The most multipliers of a row, and the most of all rows.
 pub const WIDTH: usize = 4;
 
-pub const PLACES: usize = 480;
+pub const LINE_PLACES: usize = 480;
 
 // A row of the factor: d(j), and L(j, j - 1 - o) at the offset o.
 pub struct Row {
@@ -97,4 +104,22 @@ pub fn factor_band(
         j += 1;
     }
     Ending::Whole
+}
+
+// How the factoring of a line ends, with its rows in lent lists of zeros; where it is whole, the values before rounding come in place of the right side.
+pub fn solve_line(
+    words: &[i64],
+    z: usize,
+    starts: &[u16; STARTS],
+    d: &mut [f64; CELLS],
+    l: &mut [f64; LINE_PLACES],
+    v: &mut [f64; CELLS],
+) -> Ending
+    requires { ⌜ Known (now words) × (z ≡ orderOf (now words)) × Starts z (cellsOf (now words)) (now starts) × (now d ≡ replicate 120 zero64) × (now l ≡ replicate 480 zero64) × (now v ≡ rightOf (jobOf (now words))) ⌝ }
+    ensures { λ r. ⌜ Solves (lineSolved (jobOf (now (words .entry)))) r (now (d .exit)) (now (l .exit)) (now (v .exit)) ⌝ }
+{
+    let n = cells_of(words);
+    let a = band(words, n, z);
+    let ending = factor_band(a, n, z, starts, d, l);
+    solve_whole(ending, d, l, starts, v, n, z)
 }

@@ -12,7 +12,6 @@ use factor::lowest_of;
 use factor::put_row;
 use factor::solve::solve_whole;
 use factor::start_at;
-use factor::starts_of;
 use factor::value_of;
 use jobs::words::across_of;
 use jobs::words::cells_of;
@@ -27,10 +26,11 @@ ghost use lib.ListN.{length, replicate};
 ghost use lib.Seq.{sets};
 ghost use Rattle.rows.specs.Rows.{IsRow};
 ghost use Rattle.factor.specs.Factor.{lowest, startOf, noMultipliers, judged, factorStep, factorFrom};
-ghost use Rattle.factor.specs.Places.{Placed};
+ghost use Rattle.factor.specs.Places.{Starts, Placed};
 ghost use Rattle.jobs.specs.Words.{jobOf, cellsOf, orderOf, acrossOf};
 ghost use Rattle.house.specs.Known.{Known};
 ghost use Rattle.house.specs.Band.{zero64, rightOf};
+ghost use Rattle.house.specs.Factoring.{Solves};
 ghost use Rattle.house.specs.Grid.{gridRows, gridSolved};
 ghost use Rattle.house.specs.Held.{belowOf, besideOf, entryBy, spreadOf, Narrow};
 
@@ -39,7 +39,7 @@ pub const ENTRIES: usize = 49;
 
 pub const WIDTH: usize = 48;
 
-pub const PLACES: usize = 4584;
+pub const GRID_PLACES: usize = 4584;
 
 // A at (i, i - t·columns) by t, the diagonal whole. `downs` and `sides` are the coefficients of the differences down and across, here and below.
 fn below_of(words: &[i64], downs: &[i64; 5], sides: &[i64; 5], i: usize) -> [f64; 5]
@@ -195,17 +195,21 @@ fn factor_grid(
     Ending::Whole
 }
 
-// How the factoring of a grid ends; where it is whole, the values before rounding come in place of the right side.
-pub fn solve_grid(words: &[i64], z: usize, v: &mut [f64; CELLS]) -> Ending
-    requires { ⌜ Narrow (now words) z × (now v ≡ rightOf (jobOf (now words))) ⌝ }
-    ensures { λ r. ⌜ (r ≡ gridSolved (jobOf (now (words .entry))) .ending) × (now (v .exit) ≡ gridSolved (jobOf (now (words .entry))) .values) ⌝ }
+// How the factoring of a grid ends, with its rows in lent lists of zeros; where it is whole, the values before rounding come in place of the right side.
+pub fn solve_grid(
+    words: &[i64],
+    z: usize,
+    starts: &[u16; STARTS],
+    d: &mut [f64; CELLS],
+    l: &mut [f64; GRID_PLACES],
+    v: &mut [f64; CELLS],
+) -> Ending
+    requires { ⌜ Narrow (now words) z × Starts z (cellsOf (now words)) (now starts) × (now d ≡ replicate 120 zero64) × (now l ≡ replicate 4584 zero64) × (now v ≡ rightOf (jobOf (now words))) ⌝ }
+    ensures { λ r. ⌜ Solves (gridSolved (jobOf (now (words .entry)))) r (now (d .exit)) (now (l .exit)) (now (v .exit)) ⌝ }
 {
     let n = cells_of(words);
     let downs = rows::row_of(order_of(words));
     let sides = rows::row_of(across_of(words));
-    let starts = starts_of(n, z);
-    let mut d = [0.0; CELLS];
-    let mut l = [0.0; PLACES];
-    let ending = factor_grid(words, &downs, &sides, n, z, &starts, &mut d, &mut l);
-    solve_whole(ending, &d, &l, &starts, v, n, z)
+    let ending = factor_grid(words, &downs, &sides, n, z, starts, d, l);
+    solve_whole(ending, d, l, starts, v, n, z)
 }

@@ -1,13 +1,12 @@
 // The house proposal for a job: solved, rounded out, and written as a proposal pack with every multiplier 0.
-use crate::band::band;
 use crate::band::right;
-use crate::factoring::PLACES;
-use crate::factoring::factor_band;
+use crate::factoring::LINE_PLACES;
+use crate::factoring::solve_line;
+use crate::grid::GRID_PLACES;
 use crate::grid::solve_grid;
 use crate::rounding::round_out;
 use factor::CELLS;
 use factor::Ending;
-use factor::solve::solve_whole;
 use factor::starts_of;
 use fields::Field;
 use jobs::job::JOB_WORDS;
@@ -36,18 +35,27 @@ ghost use Rattle.house.specs.Proposal.{lineSolved, solvedOf, valueOf, wr
 // The most columns of a grid.
 const COLUMNS: usize = 12;
 
-// How the factoring of a line ends; where it is whole, the values before rounding come in place of the right side.
-fn solve_line(words: &[i64], z: usize, v: &mut [f64; CELLS]) -> Ending
+// The values before rounding of a line, and of a grid, in place of the right side, with room of their own for the factor.
+fn line_values(words: &[i64], z: usize, v: &mut [f64; CELLS]) -> Ending
     requires { ⌜ Known (now words) × (z ≡ orderOf (now words)) × (now v ≡ rightOf (jobOf (now words))) ⌝ }
     ensures { λ r. ⌜ (r ≡ lineSolved (jobOf (now (words .entry))) .ending) × (now (v .exit) ≡ lineSolved (jobOf (now (words .entry))) .values) ⌝ }
 {
     let n = cells_of(words);
-    let a = band(words, n, z);
     let starts = starts_of(n, z);
     let mut d = [0.0; CELLS];
-    let mut l = [0.0; PLACES];
-    let ending = factor_band(a, n, z, &starts, &mut d, &mut l);
-    solve_whole(ending, &d, &l, &starts, v, n, z)
+    let mut l = [0.0; LINE_PLACES];
+    solve_line(words, z, &starts, &mut d, &mut l, v)
+}
+
+fn grid_values(words: &[i64], z: usize, v: &mut [f64; CELLS]) -> Ending
+    requires { ⌜ Narrow (now words) z × (now v ≡ rightOf (jobOf (now words))) ⌝ }
+    ensures { λ r. ⌜ (r ≡ gridSolved (jobOf (now (words .entry))) .ending) × (now (v .exit) ≡ gridSolved (jobOf (now (words .entry))) .values) ⌝ }
+{
+    let n = cells_of(words);
+    let starts = starts_of(n, z);
+    let mut d = [0.0; CELLS];
+    let mut l = [0.0; GRID_PLACES];
+    solve_grid(words, z, &starts, &mut d, &mut l, v)
 }
 
 // v rounded out into the box of the cell i.
@@ -87,18 +95,18 @@ fn write_values(words: &[i64], v: &[f64; CELLS], out: &mut [u8]) -> Outcome
 
 // The same of a low order, and a grid of a small reach. A function that is called from one place only is compiled into its caller, with its room on the
 // stack; with these, the two that need room are called from two places, and a line does not pay for a grid's room, nor a grid for a line's.
-fn solve_low_line(words: &[i64], z: usize, v: &mut [f64; CELLS]) -> Ending
+fn low_line_values(words: &[i64], z: usize, v: &mut [f64; CELLS]) -> Ending
     requires { ⌜ Known (now words) × (z ≡ orderOf (now words)) × (now v ≡ rightOf (jobOf (now words))) ⌝ }
     ensures { λ r. ⌜ (r ≡ lineSolved (jobOf (now (words .entry))) .ending) × (now (v .exit) ≡ lineSolved (jobOf (now (words .entry))) .values) ⌝ }
 {
-    solve_line(words, z, v)
+    line_values(words, z, v)
 }
 
-fn solve_small_grid(words: &[i64], z: usize, v: &mut [f64; CELLS]) -> Ending
+fn small_grid_values(words: &[i64], z: usize, v: &mut [f64; CELLS]) -> Ending
     requires { ⌜ Narrow (now words) z × (now v ≡ rightOf (jobOf (now words))) ⌝ }
     ensures { λ r. ⌜ (r ≡ gridSolved (jobOf (now (words .entry))) .ending) × (now (v .exit) ≡ gridSolved (jobOf (now (words .entry))) .values) ⌝ }
 {
-    solve_grid(words, z, v)
+    grid_values(words, z, v)
 }
 
 // The values before rounding of any job, in place of its right side. A job that is no grid has one column.
@@ -109,15 +117,15 @@ fn solve_job(words: &[i64], columns: usize, v: &mut [f64; CELLS]) -> Ending
     let order = order_of(words);
     if columns == 1 {
         if order <= 2 {
-            return solve_low_line(words, order, v);
+            return low_line_values(words, order, v);
         }
-        return solve_line(words, order, v);
+        return line_values(words, order, v);
     }
     let z = order * columns;
     if z <= 12 {
-        return solve_small_grid(words, z, v);
+        return small_grid_values(words, z, v);
     }
-    solve_grid(words, z, v)
+    grid_values(words, z, v)
 }
 
 // The proposal for the words of a job that was read.

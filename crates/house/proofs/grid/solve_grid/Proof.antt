@@ -1,9 +1,11 @@
 -- The factor is that of the grid, and its ending picks the case.
-use mathlib.Core.Path.{refl, ap, _∙_}
+use mathlib.Core.Path.{_≡_, ap, _∙_}
 use native.Mathlib.Omega.{arith}
-use lib.Ieee.{ofBits}
+use mathlib.Core.List.{List}
+use lib.Ieee.{Float}
 use lib.ListN.{length}
-use Rattle.jobs.specs.Words.{jobOf}
+use Rattle.jobs.specs.Words.{jobOf, cellsOf}
+use Rattle.factor.specs.Places.{Placed}
 use Rattle.factor.proofs.Turns.{factor-length}
 use Rattle.house.specs.Grid.{gridRows}
 use Rattle.house.proofs.Told.{cells-few, order-few}
@@ -14,64 +16,57 @@ use Rattle.house.proofs.grid.solve_grid.Statement.{statement}
 use Rattle.house.proofs.grid.solve_grid.Tie as tie
 
 cells-of-requires : tie.Need-cells-of-requires
-cells-of-requires c κs = let k = c .pre .0 .known in search needs
+cells-of-requires c κs = search needs
 
 order-of-requires : tie.Need-order-of-requires
-order-of-requires c κs = let k = c .before .pre .0 .known in search needs
+order-of-requires c κs = search needs
 
 row-of-requires : tie.Need-row-of-requires
-row-of-requires c κs = omega (arith, c .order-of .ensures, order-few (c .before .before .pre .0 .known))
+row-of-requires c κs = search needs
 
 across-of-requires : tie.Need-across-of-requires
-across-of-requires c κs = let k = c .before .before .before .pre .0 .known in search needs
+across-of-requires c κs = search needs
 
 row-of-requires-2 : tie.Need-row-of-requires-2
-row-of-requires-2 c κs = omega (arith, c .across-of .ensures, c .before .before .before .before .pre .0 .known .allowed .across-few)
+row-of-requires-2 c κs = search needs
 
-starts-of-requires : tie.Need-starts-of-requires
-starts-of-requires c κs =
-    let s = c .before .before .before .before .before in
+-- there is room for the rows
+places : (s : tie.Start) {l : List Float} → length l ≡ 4584 → Placed (s .args .z) (cellsOf (s .args .words .now)) (s .args .starts .now) l
+places s e =
     let k = s .pre .0 .known in
-    (omega (arith, c .before .before .before .before .cells-of .ensures, cells-few k), omega (arith, s .pre .0 .reach-is, reach-few k (s .pre .0 .columns-few)))
-
-slice-aggregate-factor-grid : tie.Need-slice-aggregate-factor-grid
-slice-aggregate-factor-grid c = search needs
+    grid-places (s .pre .1) (cells-few k) (omega (arith, s .pre .0 .reach-is, reach-few k (s .pre .0 .columns-few))) e
 
 factor-grid-requires : tie.Need-factor-grid-requires
 factor-grid-requires c κs =
-    let s = c .before .before .before .before .before .before .before .before .before .before .before in
-    let k = s .pre .0 .known in
-    let n = c .before .before .before .before .before .before .before .before .before .before .cells-of .ensures in
-    let few = reach-few k (s .pre .0 .columns-few) in (
+    let s = c .before .before .before .before .before .before .before .before .before in
+    let n = c .before .before .before .before .before .before .before .before .cells-of .ensures in (
       s .pre .0,
       n,
-      rw (← c .before .before .before .before .before .before .before .before .before .order-of .ensures) (c .before .before .before .before .before .before .before .before .row-of .ensures),
-      rw (← c .before .before .before .before .before .before .before .across-of .ensures) (c .before .before .before .before .before .before .row-of2 .ensures),
-      grid-places (c .before .before .before .before .before .starts-of .ensures) (omega (arith, n, cells-few k)) (omega (arith, s .pre .0 .reach-is, few)) refl,
+      rw (← c .before .before .before .before .before .before .before .order-of .ensures) (c .before .before .before .before .before .before .row-of .ensures),
+      rw (← c .before .before .before .before .before .across-of .ensures) (c .before .before .before .before .row-of2 .ensures),
+      rw n (places s (ap length (s .pre .3))),
     )
-
-slice-aggregate-solve-whole : tie.Need-slice-aggregate-solve-whole
-slice-aggregate-solve-whole c = search needs
 
 solve-whole-requires : tie.Need-solve-whole-requires
 solve-whole-requires c κs =
-    let s = c .before .before .before .before .before .before .before .before .before .before .before .before .before .before .before .before .before in
+    let s = c .before .before .before .before .before .before .before .before .before .before .before .before .before .before in
     let k = s .pre .0 .known in
-    let n = c .before .before .before .before .before .before .before .before .before .before .before .before .before .before .before .before .cells-of .ensures in
-    let few = reach-few k (s .pre .0 .columns-few) in
-    let made = c .before .before .before .before .before .factor-grid .ensures .2 in (
+    let n = c .before .before .before .before .before .before .before .before .before .before .before .before .before .cells-of .ensures in
+    let made = c .before .before .before .before .factor-grid .ensures .2 in (
       omega (arith, n, cells-few k),
-      omega (arith, s .pre .0 .reach-is, few),
-      grid-places (c .before .before .before .before .before .before .before .before .before .before .before .starts-of .ensures) (omega (arith, n, cells-few k)) (omega (arith, s .pre .0 .reach-is, few))
-          (ap length made ∙ factor-length (gridRows (jobOf (s .args .words .now))) (s .args .z) (c .before .before .before .before .before .before .before .before .before .before .before .before .before .before .before .before .cells-of .result) 0 _ _),
+      omega (arith, s .pre .0 .reach-is, reach-few k (s .pre .0 .columns-few)),
+      rw n
+          (places s
+          (ap length made
+          ∙ factor-length (gridRows (jobOf (s .args .words .now))) (s .args .z) (c .before .before .before .before .before .before .before .before .before .before .before .before .before .cells-of .result) 0 _ _
+          ∙ ap length (s .pre .3))),
     )
 
 returns : tie.Need-returns
-unfolding ofBits
 returns c =
-    let s = c .before .before .before .before .before .before .before .before .before .before .before .before .before .before .before .before .before .before in
+    let s = c .before .before .before .before .before .before .before .before .before .before .before .before .before .before .before in
     let j = jobOf (s .args .words .now) in
-    grid-holds j (c .before .before .before .before .before .before .before .before .before .before .before .before .before .before .before .before .before .cells-of .ensures) (s .pre .0 .reach-is) (s .pre .1) (c .before .before .before .before .before .before .factor-grid .ensures) (c .solve-whole .ensures)
+    grid-holds j (c .before .before .before .before .before .before .before .before .before .before .before .before .before .before .cells-of .ensures) (s .pre .0 .reach-is) (s .pre .4) (s .pre .2) (s .pre .3) (c .before .before .before .before .before .factor-grid .ensures) (c .solve-whole .ensures)
 
 pub solve-grid-spec : {M : Type 1} → statement M
 solve-grid-spec =
@@ -82,9 +77,6 @@ solve-grid-spec =
     row-of-requires
     across-of-requires
     row-of-requires-2
-    starts-of-requires
-    slice-aggregate-factor-grid
     factor-grid-requires
-    slice-aggregate-solve-whole
     solve-whole-requires
     returns)

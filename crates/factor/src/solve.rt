@@ -106,7 +106,7 @@ fn backward(l: &[f64], starts: &[u16; STARTS], v: &mut [f64; CELLS], n: usize, z
 }
 
 // The values before rounding, in place of the right side.
-fn solve(
+pub fn solve(
     d: &[f64; CELLS],
     l: &[f64],
     starts: &[u16; STARTS],

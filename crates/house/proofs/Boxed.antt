@@ -4,7 +4,7 @@ use mathlib.Core.Path.{_≡_, refl, sym, ap, subst, _∙_}
 use mathlib.Core.Bool.{Bool, true, false}
 use native.Mathlib.Nat as N
 use native.Mathlib.Omega.{arith}
-use lib.Dec.{T, lit<}
+use lib.Dec.{T, lit<, leb→le}
 use lib.IntN.{ℤ, pos, natAbs}
 use lib.Signed.{_≤ℤ_}
 use lib.Ieee.{Float, binary64, lt, ofInt}
@@ -22,7 +22,7 @@ use Rattle.house.proofs.Nearest.{from-below, from-above, nearest-is}
 Between : (lo hi x : ℕ) → Type 0
 Between lo hi x = (lo ≤ x) × (x ≤ hi)
 
-nearest-between : (lo hi : ℕ) (v : Float) → lo ≤ 1000000 → hi ≤ 1000000 → T (lt (ofInt binary64 (pos lo)) v) → T (lt v (ofInt binary64 (pos hi))) → Between lo hi (nearestUp v)
+nearest-between : (lo hi : ℕ) (v : Float) → lo ≤ 1000000000 → hi ≤ 1000000000 → T (lt (ofInt binary64 (pos lo)) v) → T (lt v (ofInt binary64 (pos hi))) → Between lo hi (nearestUp v)
 unfolding Between
 nearest-between lo hi v l h a b =
     let w = within (ofInt binary64 (pos lo)) v (ofInt binary64 (pos hi)) lo hi (whole-value lo (omega arith)) (whole-value hi (omega arith)) a b in
@@ -35,7 +35,7 @@ nearest-between lo hi v l h a b =
     under : (hi : ℕ) {x : ℕ} → x < hi + 1 → x ≤ hi
     under hi h = omega arith
 
-pub rounded-between : (lo hi : ℕ) (v : Float) → lo ≤ hi → hi ≤ 1000000 → (lo ≤ roundedOut lo hi v) × (roundedOut lo hi v ≤ hi)
+pub rounded-between : (lo hi : ℕ) (v : Float) → lo ≤ hi → hi ≤ 1000000000 → (lo ≤ roundedOut lo hi v) × (roundedOut lo hi v ≤ hi)
 unfolding roundedOut Between
 rounded-between lo hi v l h = go (lt (ofInt binary64 (pos lo)) v) (lt v (ofInt binary64 (pos hi))) refl refl
   where
@@ -50,7 +50,7 @@ module _ {j : Job} {i : ℕ} (c : CellAllowed j i) (v : Float) where
   order = pos-le (subst (λ (x : ℤ). x ≤ℤ pos (natAbs (j .ceiling i))) (c .floor .natural) (subst (λ (x : ℤ). j .floor i ≤ℤ x) (c .ceiling .natural) (c .box)))
 
   pub value-between : (natAbs (j .floor i) ≤ natAbs (valueOf j i v)) × (natAbs (valueOf j i v) ≤ natAbs (j .ceiling i))
-  value-between = rounded-between (natAbs (j .floor i)) (natAbs (j .ceiling i)) v order (c .ceiling .small)
+  value-between = rounded-between (natAbs (j .floor i)) (natAbs (j .ceiling i)) v order (N.le-trans (c .ceiling .small) (leb→le 1000000 1000000000 tt))
 
   pub value-small : natAbs (valueOf j i v) ≤ 1000000
   value-small = N.le-trans (value-between .1) (c .ceiling .small)

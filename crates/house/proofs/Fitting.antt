@@ -6,47 +6,43 @@ use mathlib.Core.Logic.{inr}
 use mathlib.Core.List.{List}
 use native.Mathlib.Nat as N
 use native.Mathlib.Omega.{arith}
-use borrow.Author.Tests.{ltb-true, ltb-false}
-use lib.Dec.{ltb, lit<}
+use borrow.Author.Tests.{ltb-false}
+use lib.Dec.{ltb}
 use lib.IntN.{ℤ, pos}
 use lib.Ieee.{Float, nan}
 use lib.ListN.{length, getD, replicate, length-replicate}
-use mir.Syntax.{w64}
-use mir.Val.{SFits}
 use Rattle.numbers.specs.Choice.{if_then_else_}
 use Rattle.numbers.proofs.Clash.{clash}
-use Rattle.whole.proofs.Fits.{small-fits}
 use Rattle.whole.proofs.Order.{pos-mono}
 use Rattle.fields.specs.Table.{valuesFrom}
 use Rattle.packs.specs.declared.Outcome.{Outcome}
 use Rattle.packs.specs.declared.Outcome.the-variants.{Done, Refused}
-use Rattle.packs.specs.Promises.{AllWords}
 use Rattle.packs.specs.Reading.{Ran}
 use Rattle.packs.specs.Writing.{Written, inRoom, refused, writeFrom}
 use Rattle.packs.proofs.Packing.{length-written}
 use Rattle.jobs.specs.Job.{Job}
 use Rattle.jobs.specs.Words.{wordAt, jobOf}
-use Rattle.jobs.specs.Allowed.{Allowed}
-use Rattle.jobs.specs.Packs.{readJob, readProposal, writeProposal}
+use Rattle.jobs.specs.Allowed.{Allowed, Proposed}
+use Rattle.jobs.specs.Packs.{readJob, writeProposal}
 use Rattle.jobs.proofs.Places.{zeros-at}
 use Rattle.jobs.proofs.Readings.{read-jobs-allowed, six-done}
-use Rattle.jobs.proofs.Trips.{proposals-read-back}
 use Rattle.factor.specs.declared.Ending.{Ending}
 use Rattle.factor.specs.declared.Ending.the-variants.{Whole, Thin}
 use Rattle.house.specs.Proposal.{solvedOf, valueOf, wordsOf, onEnding, proposedOf, onJobRead}
 use Rattle.house.specs.Promises.{Fit, ProposalsFit, ProposalsCounted}
 use Rattle.house.proofs.Boxed.{value-between, value-small}
 use Rattle.house.proofs.Fills.{filled-at, filled-other, length-filled}
+use Rattle.house.proofs.Packable.{proposed-back}
 
 -- ---- what is done was written
 
 -- a writing that is done, with its length
-record Roomed (room : ℕ) (w r : Written) (n : ℕ) : Type 0 where
+pub record Roomed (room : ℕ) (w r : Written) (n : ℕ) : Type 0 where
   pub ends : w .outcome ≡ Done n
   pub bytes : r .bytes ≡ w .bytes
   pub room-for : n ≤ room
 
-in-room : (room : ℕ) (bytes : List ℕ) (o : Outcome) (n : ℕ) → inRoom room bytes o .outcome ≡ Done n
+pub in-room : (room : ℕ) (bytes : List ℕ) (o : Outcome) (n : ℕ) → inRoom room bytes o .outcome ≡ Done n
     → Roomed room (record { bytes = bytes; outcome = o }) (inRoom room bytes o) n
 in-room room bytes (Refused number place) n e = clash (cc)
 in-room room bytes (Done m) n e = go (ltb room m) refl e
@@ -108,19 +104,12 @@ module _ (j : Job) (v : List Float) where
       ∙ zeros-at (j .cells + j .links) i
 
   module _ (a : Allowed j) where
-    words-fit : AllWords (wordsOf j v)
-    words-fit i = go (ltb i (j .cells)) refl
-      where
-        go : (t : Bool) → ltb i (j .cells) ≡ t → SFits w64 (wordAt (wordsOf j v) i)
-        go true e =
-            let h = ltb-true i (j .cells) e in
-            rw (value-is i h) (small-fits (valueOf j i (getD v i nan)) (value-small (a .cell i h) (getD v i nan)) (lit< tt))
-        go false e = rw (zero-is i (ltb-false i (j .cells) e)) (small-fits (pos 0) (N.le-refl 0) (lit< tt))
-
-    back : {n : ℕ} {s : List ℕ} → writeProposal (j .cells) (j .links) (wordsOf j v) .outcome ≡ Done n
-        → s ≡ writeProposal (j .cells) (j .links) (wordsOf j v) .bytes
-        → readProposal (j .cells) (j .links) s ≡ record { words = wordsOf j v; outcome = Done (j .cells + j .links) }
-    back {n} e q = rw q (proposals-read-back (j .cells) (j .links) (wordsOf j v) words-fit n e ∙ ap {B = Ran} (λ (k : ℕ). record { words = wordsOf j v; outcome = Done k }) count-is)
+    pub words-proposed : Proposed (j .cells) (j .links) (wordsOf j v)
+    words-proposed = record {
+      count = count-is;
+      value = λ i h. rw (value-is i h) (record { natural = refl; small = value-small (a .cell i h) (getD v i nan) });
+      multiplier = λ l h. rw (zero-is (j .cells + l) (omega arith)) (record { natural = refl; small = omega arith });
+    }
 
     fits : {r : Ran} → r ≡ record { words = wordsOf j v; outcome = Done (j .cells + j .links) } → Fit j r
     fits e =
@@ -139,7 +128,7 @@ proposals-fit room job n e =
     let j = jobOf (readJob job .words) in
     let r = on-read room (readJob job .words) (readJob job .outcome) n e in
     let a = read-jobs-allowed job (r .count) (r .read) in
-    fits j (r .done .values) a (back j (r .done .values) a (r .done .whole .ends) (r .done .whole .bytes))
+    fits j (r .done .values) a (proposed-back (wordsOf j (r .done .values)) (words-proposed j (r .done .values) a) (r .done .whole .ends) (r .done .whole .bytes))
 
 pub proposals-counted : ProposalsCounted
 proposals-counted room job n e =

@@ -137,11 +137,11 @@ above-minus-one (inf s) p = absurd p
 above-minus-one (fin true m e) p = absurd p
 above-minus-one (fin false m e) p = lt→ltb 0 (1 * down e + m * up e * 1) (let d = down-pos e in omega (arith, d))
 
--- the whole part of a v that is below 1,000,000
-uncapped : (a : ℕ) → a < 1000000 → min a (2 ^ 64 - 1) ≡ a
+-- the whole part of a v that is below 1,000,000,000
+uncapped : (a : ℕ) → a < 1000000000 → min a (2 ^ 64 - 1) ≡ a
 uncapped a h = omega arith
 
-pub whole-part : (v : Float) → T (positive v) → num v < 1000000 * den v → toUnsigned 64 v ≡ num v / den v
+pub whole-part : (v : Float) → T (positive v) → num v < 1000000000 * den v → toUnsigned 64 v ≡ num v / den v
 unfolding toUnsigned
 whole-part nan p l = absurd p
 whole-part (inf s) p l = absurd p

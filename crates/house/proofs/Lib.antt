@@ -12,6 +12,7 @@ pub mod Spread
 pub mod Squares
 pub mod Solving
 pub mod Handing
+pub mod Packable
 pub mod Fitting
 pub mod Thin
 pub mod Writable

@@ -14,7 +14,8 @@ ghost use Rattle.rows.specs.Rows.{IsRow};
 ghost use Rattle.house.specs.Known.{Known};
 ghost use Rattle.house.specs.Band.{productTerm, squaresAt, wholeEntry, entriesOf, zero64, bandOf, rightOf};
 
-fn cast(x: i64) -> f64
+// A whole number, cast exactly.
+pub fn cast(x: i64) -> f64
     requires { ⌜ natAbs x ≤ 1000000000 ⌝ }
     ensures { λ r. ⌜ r ≡ ofInt binary64 x ⌝ }
 {

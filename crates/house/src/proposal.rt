@@ -68,10 +68,10 @@ fn value_at(words: &[i64], i: usize, v: f64) -> i64
     round_out(v, lo, hi) as i64
 }
 
-// The values of a proposal, rounded out, into a list of zeros.
-fn values_into(words: &[i64], n: usize, v: &[f64; CELLS], made: &mut [i64; CELLS])
-    requires { ⌜ Known (now words) × (n ≡ cellsOf (now words)) × (now made ≡ replicate 120 (pos 0)) ⌝ }
-    ensures { λ _. ⌜ now (made .exit) ≡ filled (λ i. valueOf (jobOf (now (words .entry))) i (getD (now (v .entry)) i nan)) n 0 (replicate 120 (pos 0)) ⌝ }
+// The values of a proposal, rounded out, into the first n words of a list.
+pub fn values_into(words: &[i64], n: usize, v: &[f64; CELLS], made: &mut [i64])
+    requires { ⌜ Known (now words) × (n ≡ cellsOf (now words)) × (n ≤ length (now made)) ⌝ }
+    ensures { λ _. ⌜ now (made .exit) ≡ filled (λ i. valueOf (jobOf (now (words .entry))) i (getD (now (v .entry)) i nan)) n 0 (now (made .entry)) ⌝ }
 {
     let mut i = 0;
     while i < n {

@@ -2,7 +2,7 @@
 use mathlib.Core.Path.{_≡_, ap, ap₂, _∙_}
 use Prim.Native.Nat.{ℕ}
 use native.Mathlib.Nat as N
-use lib.Dec.{lit<}
+use lib.Dec.{lit<, leb→le}
 use lib.IntN.{natAbs}
 use mir.Syntax.{w64}
 use mir.Facts.{toZ-pos}
@@ -31,7 +31,7 @@ natural-requires-2 c κs = let s = c .before .before .before in
 round-out-requires : tie.Need-round-out-requires
 round-out-requires c κs =
     let s = c .before .before .before .before in
-    rw (c .natural2 .ensures, ceiling-is (s .pre .0) (s .pre .1) (c .before .ceiling-at .ensures)) (ceiling-word (s .pre .0) (s .pre .1) .small)
+    rw (c .natural2 .ensures, ceiling-is (s .pre .0) (s .pre .1) (c .before .ceiling-at .ensures)) (N.le-trans (ceiling-word (s .pre .0) (s .pre .1) .small) (leb→le 1000000 1000000000 tt))
 
 cast-result : tie.Need-cast-result
 cast-result c = search needs

@@ -1,11 +1,11 @@
 -- After i turns the places below i hold their values.
-use mathlib.Core.Path.{_≡_, sym, ap, _∙_}
+use mathlib.Core.Path.{_≡_, refl, sym, ap, _∙_}
 use Prim.Native.Nat.{ℕ, _+_, _-_, _≤_, _<_}
 use native.Mathlib.Omega.{arith}
 use mathlib.Core.List.{List}
 use lib.Dec.{lit<}
 use lib.IntN.{ℤ}
-use lib.ListN.{getD, set}
+use lib.ListN.{getD, length, set, length-set}
 use lib.Ieee.{Float, nan}
 use Rattle.whole.proofs.Fits.{gives, small-fits}
 use Rattle.jobs.specs.Words.{jobOf, cellsOf}
@@ -22,7 +22,8 @@ abbrev values : List ℤ → List Float → ℕ → ℤ
 values ws v i = valueOf (jobOf ws) i (getD v i nan)
 
 abbrev Inv-loop : tie.InvT-loop
-Inv-loop words n v made₀ i₀ made i = (i ≤ n) × (filled (values words v) (n - i) i made ≡ filled (values words v) n 0 made₀)
+Inv-loop words n v made₀ i₀ made i =
+    (i ≤ n) × (length made ≡ length made₀) × (filled (values words v) (n - i) i made ≡ filled (values words v) n 0 made₀)
 
 abbrev μ-loop : tie.MeasureT-loop
 μ-loop words n v made₀ i₀ made i = n - i
@@ -30,7 +31,7 @@ abbrev μ-loop : tie.MeasureT-loop
 loop-holds : tie.Need-loop-holds Inv-loop μ-loop
 loop-holds c =
     let e : c .args .n - 0 ≡ c .args .n = omega arith in
-    (omega arith, rw e)
+    (omega arith, refl, rw e)
 
 mul-x : tie.Need-mul-x Inv-loop μ-loop
 mul-x c = let few = cells-few (c .before .before .pre .0) in search needs
@@ -44,8 +45,8 @@ value-at-requires c κs = let s = c .before .before .before in (s .pre .0, omega
 mul-t8 : tie.Need-mul-t8 Inv-loop μ-loop
 mul-t8 c = let few = cells-few (c .before .before .before .before .pre .0) in search needs
 
-element-set-from-made : tie.Need-element-set-from-made Inv-loop μ-loop
-element-set-from-made c = let few = cells-few (c .before .before .before .before .pre .0) in search needs
+slice-set-from-made : tie.Need-slice-set-from-made Inv-loop μ-loop
+slice-set-from-made c = search needs
 
 add-i : tie.Need-add-i Inv-loop μ-loop
 add-i c = let few = cells-few (c .before .before .before .before .pre .0) in search needs
@@ -64,16 +65,20 @@ loop-again c =
     let h : i < cellsOf ws = omega (arith, s .pre .1) in
     let small = value-small (s .pre .0 .allowed .cell i h) (getD v i nan) in (
       omega arith,
+      length-set made i _ ∙ head .loop .inv .1,
       ap (λ (x : ℤ). filled (values ws v) (s .args .n - (i + 1)) (i + 1) (set made i x)) (gives (c .value-at .ensures) (small-fits (values ws v i) small (lit< tt)))
-          ∙ sym (filled-more (values ws v) i (s .args .n) made (omega arith)) ∙ head .loop .inv .1,
+          ∙ sym (filled-more (values ws v) i (s .args .n) made (omega arith)) ∙ head .loop .inv .2,
     )
+
+same-length : tie.Need-same-length Inv-loop μ-loop
+same-length c = search needs
 
 returns : tie.Need-returns Inv-loop μ-loop
 returns c =
     let head = c .before in
     let s = head .before in
     let f = values (s .args .words .now) (s .args .v .now) in
-    sym (filled-done f (head .loop .i) (s .args .n) (head .loop .made) (omega arith)) ∙ head .loop .inv .1 ∙ ap (filled f (s .args .n) 0) (s .pre .2)
+    sym (filled-done f (head .loop .i) (s .args .n) (head .loop .made) (omega arith)) ∙ head .loop .inv .2
 
 pub values-into-spec : {M : Type 1} → statement M
 values-into-spec =
@@ -86,8 +91,9 @@ values-into-spec =
     element-copy-out-x
     value-at-requires
     mul-t8
-    element-set-from-made
+    slice-set-from-made
     add-i
     loop-less
     loop-again
+    same-length
     returns)

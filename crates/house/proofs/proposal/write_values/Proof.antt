@@ -1,5 +1,4 @@
 -- What is written are the values of the job's cells, with a zero for each link after them.
-use mathlib.Core.Path.{refl}
 use native.Mathlib.Omega.{arith}
 use denote.Ref.{now}
 use lib.ListN.{length}
@@ -17,8 +16,13 @@ cells-of-requires c κs = search needs
 links-of-requires : tie.Need-links-of-requires
 links-of-requires c κs = search needs
 
+slice-aggregate-values-into : tie.Need-slice-aggregate-values-into
+slice-aggregate-values-into c = search needs
+
 values-into-requires : tie.Need-values-into-requires
-values-into-requires c κs = let s = c .before .before .before .before in (s .pre, c .before .before .cells-of .ensures, refl)
+values-into-requires c κs =
+    let s = c .before .before .before .before in
+    (s .pre, c .before .before .cells-of .ensures, omega (arith, c .before .before .cells-of .ensures, cells-few (s .pre)))
 
 sub-put-padded : tie.Need-sub-put-padded
 sub-put-padded c = search needs
@@ -28,9 +32,9 @@ part-put-padded-start c = search needs
 
 part-put-padded-end : tie.Need-part-put-padded-end
 part-put-padded-end c =
-    let s = c .before .before .before .before .before .before in
-    let len = length-rounded (jobOf (s .args .words .now)) (s .args .v .now) (c .before .before .before .before .cells-of .result) (c .before .values-into .ensures) in
-    omega (arith, c .before .before .before .before .cells-of .ensures, cells-few (s .pre), len)
+    let s = c .before .before .before .before .before .before .before in
+    let len = length-rounded (jobOf (s .args .words .now)) (s .args .v .now) (c .before .before .before .before .before .cells-of .result) (c .before .before .values-into .ensures) in
+    omega (arith, c .before .before .before .before .before .cells-of .ensures, cells-few (s .pre), len)
 
 put-padded-requires : tie.Need-put-padded-requires
 put-padded-requires c κs = search needs
@@ -40,11 +44,11 @@ same-length c = search needs
 
 returns : tie.Need-returns
 returns c =
-    let s = c .before .before .before .before .before .before .before .before .before .before .before in
+    let s = c .before .before .before .before .before .before .before .before .before .before .before .before in
     let j = jobOf (s .args .words .now) in
     let v = s .args .v .now in
-    let n = c .before .before .before .before .before .before .before .before .before .cells-of .ensures in
-    let p = part-padded j v n (c .before .before .before .before .before .before .before .before .links-of .ensures) (omega (arith, n, cells-few (s .pre))) (c .before .before .before .before .before .before .values-into .ensures) in
+    let n = c .before .before .before .before .before .before .before .before .before .before .cells-of .ensures in
+    let p = part-padded j v n (c .before .before .before .before .before .before .before .before .before .links-of .ensures) (omega (arith, n, cells-few (s .pre))) (c .before .before .before .before .before .before .before .values-into .ensures) in
     rw (← house-packs j (s .pre .allowed) v (length (now (s .args .out))), ← p) (c .before .before .put-padded .ensures)
 
 pub write-values-spec : {M : Type 1} → statement M
@@ -53,6 +57,7 @@ write-values-spec =
     (tie.spec
     cells-of-requires
     links-of-requires
+    slice-aggregate-values-into
     values-into-requires
     sub-put-padded
     part-put-padded-start

@@ -14,24 +14,24 @@ use Rattle.house.proofs.Nearest.{nearest-is, goes-up, stays}
 use Rattle.house.proofs.rounding.nearest_up.Statement.{statement}
 use Rattle.house.proofs.rounding.nearest_up.Tie as tie
 
-inside : (c : tie.Start) → Within (c .args .v) 0 1000000
+inside : (c : tie.Start) → Within (c .args .v) 0 1000000000
 inside c =
-    within (ofInt binary64 (pos 0)) (c .args .v) (ofInt binary64 (pos 1000000)) 0 1000000 (whole-value 0 (leb→le 0 (2 ^ 53) tt)) (whole-value 1000000 (leb→le 1000000 (2 ^ 53) tt)) (c .pre .0) (c .pre .1)
+    within (ofInt binary64 (pos 0)) (c .args .v) (ofInt binary64 (pos 1000000000)) 0 1000000000 (whole-value 0 (leb→le 0 (2 ^ 53) tt)) (whole-value 1000000000 (leb→le 1000000000 (2 ^ 53) tt)) (c .pre .0) (c .pre .1)
 
 -- the whole part of v, as the code has it
 part : (c : tie.After-truncating-f64-to-u64) → c .truncating-f64-to-u64 .result ≡ num (c .before .args .v) / den (c .before .args .v)
 part c = c .truncating-f64-to-u64 .ensures ∙ whole-part (c .before .args .v) (inside (c .before) .0) (inside (c .before) .2)
 
-few : (c : tie.After-truncating-f64-to-u64) → c .truncating-f64-to-u64 .result < 1000000
+few : (c : tie.After-truncating-f64-to-u64) → c .truncating-f64-to-u64 .result < 1000000000
 few c = rw (part c) (div-lt-iff-lt-mul (den-pos (c .before .args .v)) .1 (inside (c .before) .2))
 
-next-less-half : (n : ℕ) → n < 1000000 → HasValue (sub binary64 (ofInt binary64 (pos (n + 1))) half) false ((n + 1) * 2 - 1) 2
+next-less-half : (n : ℕ) → n < 1000000000 → HasValue (sub binary64 (ofInt binary64 (pos (n + 1))) half) false ((n + 1) * 2 - 1) 2
 next-less-half n h = minus-half (ofInt binary64 (pos (n + 1))) (n + 1) (whole-value (n + 1) (omega arith)) (omega arith) (omega arith)
 
 truncating-f64-to-u64-requires : tie.Need-truncating-f64-to-u64-requires
 truncating-f64-to-u64-requires c κs =
     let v = c .args .v in
-    (above-minus-one v (inside c .0), below-more v 0 1000000 (inside c) (fin false 1 (pos 64)) (2 ^ 64) (refl, refl) (leb→le 1000000 (2 ^ 64) tt))
+    (above-minus-one v (inside c .0), below-more v 0 1000000000 (inside c) (fin false 1 (pos 64)) (2 ^ 64) (refl, refl) (leb→le 1000000000 (2 ^ 64) tt))
 
 cast-down : tie.Need-cast-down
 cast-down c = omega (arith, few c)

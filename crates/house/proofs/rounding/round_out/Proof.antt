@@ -24,7 +24,7 @@ nearest-up-requires c κs =
     within (ofInt binary64 (pos (a .lo))) (a .v) (ofInt binary64 (pos (a .hi))) (a .lo) (a .hi) (whole-value (a .lo) (omega arith)) (whole-value (a .hi) (omega arith))
     (subst T (sym (c .before .before .if1 .taken)) tt) (subst T (sym (c .if2 .taken)) tt) in (
       above-zero (a .v) (a .lo) (a .hi) w (ofInt binary64 (pos 0)) (whole-value 0 (leb→le 0 (2 ^ 53) tt)),
-      below-more (a .v) (a .lo) (a .hi) w (ofInt binary64 (pos 1000000)) 1000000 (whole-value 1000000 (leb→le 1000000 (2 ^ 53) tt)) (omega arith),
+      below-more (a .v) (a .lo) (a .hi) w (ofInt binary64 (pos 1000000000)) 1000000000 (whole-value 1000000000 (leb→le 1000000000 (2 ^ 53) tt)) (omega arith),
     )
 
 returns : tie.Need-returns

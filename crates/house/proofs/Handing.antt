@@ -57,7 +57,7 @@ module _ (room : ℕ) (j : Job) (few : j .columns ≤ 12) {e : Ending} {v : List
 
 -- ---- the words of the proposal
 
-take-zeros : (m k : ℕ) → m ≤ k → take m (replicate k (pos 0)) ≡ replicate m (pos 0)
+pub take-zeros : (m k : ℕ) → m ≤ k → take m (replicate k (pos 0)) ≡ replicate m (pos 0)
 take-zeros zero k h = refl
 take-zeros (suc m) zero h = absurd (omega arith)
 take-zeros (suc m) (suc k) h = ap (λ (xs : List ℤ). pos 0 ∷ xs) (take-zeros m k (omega arith))

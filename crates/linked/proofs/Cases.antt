@@ -112,7 +112,7 @@ counting-done p (Done m) {n} {q} e =
     (ap Done a, b)
 counting-done p (Refuses number place) e = clash (cc)
 
-counting-refused : (p : ℕ) (o : Outcome) {number place : ℕ} → counting p o ≡ Refused number place → o ≡ Refuses number place
+pub counting-refused : (p : ℕ) (o : Outcome) {number place : ℕ} → counting p o ≡ Refused number place → o ≡ Refuses number place
 counting-refused p (Done m) e = clash (cc)
 counting-refused p (Refuses a b) {number} {place} e =
     let x : a ≡ number = cc in

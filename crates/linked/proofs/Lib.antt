@@ -5,5 +5,6 @@ pub mod Searching
 pub mod Answering
 pub mod First
 pub mod Cases
+pub mod Refusals
 pub mod Boxes
 pub mod Worked

@@ -4,4 +4,5 @@ pub mod Endings
 pub mod Small
 pub mod Outcomes
 pub mod Listed
+pub mod Linked
 pub mod Shelves

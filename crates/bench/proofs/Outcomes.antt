@@ -7,7 +7,6 @@ use native.Mathlib.Omega.{arith}
 use borrow.Author.Tests.{eqb-true}
 use lib.Dec.{eqb, ltb}
 use lib.IntN.{ℤ}
-use lib.Ieee.{Float}
 use Rattle.numbers.specs.Choice.{if_then_else_}
 use Rattle.fields.specs.Table.{valuesFrom}
 use Rattle.packs.specs.declared.Outcome.{Outcome}
@@ -27,7 +26,7 @@ use Rattle.measure.specs.declared.check.Verdict.{Verdict}
 use Rattle.measure.specs.declared.check.Verdict.the-variants.{Accepted, Refused as Refuses}
 use Rattle.measure.specs.Check.{onRead, proposalVerdict, checkOf}
 use Rattle.terms.specs.Listing.{endOf, termsOf}
-use Rattle.house.specs.Proposal.{wordsOf, writtenOf, onEnding, solvedOf, proposedOf, onJobRead, proposeOf}
+use Rattle.house.specs.Proposal.{wordsOf, onEnding, solvedOf, proposedOf, onJobRead, proposeOf}
 use Rattle.house.proofs.Thin.{thin-cell}
 use Rattle.checked.specs.Answers.{answerOf}
 use Rattle.bench.specs.Calls.{outcomeOf}
@@ -70,19 +69,19 @@ write-small room words =
 
 -- ---- the house proposal
 
-written-small : (room : ℕ) (j : Job) → Allowed j → (v : List Float) → Small (outcomeOf (writtenOf room j v .outcome))
-written-small room j A v =
-    let w = writeProposal (j .cells) (j .links) (wordsOf j v) in
+-- a proposal's words written
+pub proposal-small : (room : ℕ) (j : Job) → Allowed j → (ws : List ℤ) → Small (outcomeOf (roomed room (writeProposal (j .cells) (j .links) ws) .outcome))
+proposal-small room j A ws =
+    let w = writeProposal (j .cells) (j .links) ws in
     in-room-small room (w .bytes) (w .outcome)
-    (six-small (writeFrom (wordsOf j v) (valuesFrom (j .cells) (j .links)) 0 .outcome)
-    (proposal-written-near (j .cells) (j .links) (A .cells-few) (A .links-few) (wordsOf j v)))
+    (six-small (writeFrom ws (valuesFrom (j .cells) (j .links)) 0 .outcome) (proposal-written-near (j .cells) (j .links) (A .cells-few) (A .links-few) ws))
 
 proposed-small : (room : ℕ) (j : Job) → Allowed j → Small (outcomeOf (proposedOf room j .outcome))
 unfolding proposedOf
 proposed-small room j A = wide (ltb 12 (j .columns)) (go (solvedOf j .ending) refl)
   where
     go : (e : Ending) → solvedOf j .ending ≡ e → Small (outcomeOf (onEnding room j (solvedOf j .values) e .outcome))
-    go Whole q = written-small room j A (solvedOf j .values)
+    go Whole q = proposal-small room j A (wordsOf j (solvedOf j .values))
     go (Thin cell pivot) q = record { number = omega arith; place = omega (arith, thin-cell j cell pivot q, A .cells-few) }
 
     wide : (b : Bool) → Small (outcomeOf (onEnding room j (solvedOf j .values) (solvedOf j .ending) .outcome))

@@ -1,4 +1,4 @@
--- The twelve calls over C: each call's answer, what it leaves in the slice that it writes to, and its claim, which its contract cites.
+-- The thirteen calls over C: each call's answer, what it leaves in the slice that it writes to, and its claim, which its contract cites.
 use Prim.Native.Nat.{ℕ}
 use mathlib.Core.List.{List, []}
 use lib.IntN.{ℤ}
@@ -11,6 +11,9 @@ use Rattle.jobs.specs.Packs.{readJobInto, writeJob}
 use Rattle.measure.specs.Check.{checkOf}
 use Rattle.terms.specs.Listing.{termsOf}
 use Rattle.house.specs.Proposal.{proposeOf}
+use Rattle.linked.specs.declared.Offer.{Offer}
+use Rattle.linked.specs.declared.Offer.the-variants.{Proposed, Refused as Refuses}
+use Rattle.linked.specs.Proposal.{linkedOf}
 use Rattle.imports.specs.declared.Given.{Given}
 use Rattle.imports.specs.Imports.{importOf}
 use Rattle.exports.specs.Exports.{exportOf, ratesOf}
@@ -36,6 +39,15 @@ WriterSays written out answer = Says (outcomeOf (written .outcome)) answer out (
 
 abbrev pub ProposeSays : (job out answer : List ℕ) → (returned : ℕ) (answered left : List ℕ) → Type 0
 ProposeSays job out answer = WriterSays (proposeOf (length out) job) out answer
+
+-- W-207: "the count stands in F"
+abbrev pub offerOf : Offer → Answer
+offerOf (Proposed bytes passes) = record { number = 0; place = bytes; loss = passes; gap = 0 }
+offerOf (Refuses number place) = refusal number place .answer
+
+abbrev pub ProposeLinkedSays : (job : List ℕ) (passes : ℕ) (out answer : List ℕ) → (returned : ℕ) (answered left : List ℕ) → Type 0
+ProposeLinkedSays job passes out answer =
+    Says (offerOf (linkedOf (length out) passes job .offer)) answer out (sets out 0 (linkedOf (length out) passes job .bytes))
 
 -- Words handed out, in front of the words that were lent: three a place, "done: place the words written; F and G 0".
 abbrev pub TermsSays : (job proposal : List ℕ) (out : List ℤ) (answer : List ℕ) → (returned : ℕ) (answered : List ℕ) (left : List ℤ) → Type 0

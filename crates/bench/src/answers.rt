@@ -4,9 +4,10 @@ ghost use Prim.Native.Nat.{_^_, _%_};
 ghost use lib.ListN.{length};
 ghost use Rattle.checked.specs.Answers.{answerOf};
 ghost use Rattle.bench.specs.Answers.{codeOf, answerWords};
-ghost use Rattle.bench.specs.Calls.{outcomeOf};
+ghost use Rattle.bench.specs.Calls.{outcomeOf, offerOf};
 use checked::Answer;
 use checked::plain;
+use linked::Offer;
 use measure::check::Verdict;
 use numbers::zigzag::size_of;
 use packs::Outcome;
@@ -60,5 +61,20 @@ pub fn of_outcome(outcome: Outcome) -> Answer
     match outcome {
         Outcome::Done(n) => plain(0, n as u64),
         Outcome::Refused(number, place) => plain(number, place as u64),
+    }
+}
+
+// The answer for a proposal that honours links: the count of passes stands in F.
+pub fn of_offer(offer: Offer) -> Answer
+    ensures { λ r. ⌜ r ≡ offerOf offer ⌝ }
+{
+    match offer {
+        Offer::Proposed { bytes, passes } => Answer {
+            number: 0,
+            place: bytes as u64,
+            loss: passes,
+            gap: 0,
+        },
+        Offer::Refused { number, place } => plain(number, place as u64),
     }
 }

@@ -1,4 +1,4 @@
-// The C boundary: the twelve calls of the portal. Each tests its answer slice before all else and hands what it is lent to a proved function; none asks
+// The C boundary: the thirteen calls of the portal. Each tests its answer slice before all else and hands what it is lent to a proved function; none asks
 // its caller to have tested anything.
 mod answers;
 pub mod comma;

@@ -1,8 +1,9 @@
-// A proposal checked, its terms handed out, and the house's own made.
-ghost use Rattle.bench.specs.Calls.{CheckSays, TermsSays, ProposeSays};
+// A proposal checked, its terms handed out, and the house's own two made.
+ghost use Rattle.bench.specs.Calls.{CheckSays, TermsSays, ProposeSays, ProposeLinkedSays};
 use crate::answers::ANSWER_WORDS;
 use crate::answers::NO_ANSWER;
 use crate::answers::give;
+use crate::answers::of_offer;
 use crate::answers::of_outcome;
 use crate::answers::of_verdict;
 
@@ -45,4 +46,21 @@ pub extern "C" fn bench_propose(job: &[u8], out: &mut [u8], answer: &mut [u64]) 
     }
     let outcome = house::proposal::propose(job, out);
     give(answer, of_outcome(outcome))
+}
+
+// Write the house proposal that honours links to the output: that of the first pass, among so many, that the check accepts.
+#[no_mangle]
+pub extern "C" fn bench_propose_linked(
+    job: &[u8],
+    passes: u64,
+    out: &mut [u8],
+    answer: &mut [u64],
+) -> u64
+    ensures { λ r. ⌜ ProposeLinkedSays (now (job .entry)) passes (now (out .entry)) (now (answer .entry)) r (now (answer .exit)) (now (out .exit)) ⌝ }
+{
+    if answer.len() != ANSWER_WORDS {
+        return NO_ANSWER;
+    }
+    let offer = linked::propose_linked(job, passes, out);
+    give(answer, of_offer(offer))
 }

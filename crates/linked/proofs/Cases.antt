@@ -19,6 +19,7 @@ use Rattle.packs.specs.Reading.{Ran}
 use Rattle.packs.specs.Writing.{Written, refused as unwritten, inRoom, writeFrom}
 use Rattle.packs.proofs.Near.{Near}
 use Rattle.packs.proofs.Packing.{length-written}
+use Rattle.jobs.specs.Job.{Job}
 use Rattle.jobs.specs.Packs.{readJob, readProposal, writeProposal}
 use Rattle.jobs.specs.Allowed.{Allowed}
 use Rattle.jobs.proofs.Near.{job-read-near}
@@ -30,6 +31,7 @@ use Rattle.checked.specs.Answers.{accepted}
 use Rattle.factor.specs.declared.Ending.{Ending}
 use Rattle.factor.specs.declared.Ending.the-variants.{Whole, Thin}
 use Rattle.house.specs.Proposal.{solvedOf}
+use Rattle.house.proofs.Thin.{thin-cell}
 use Rattle.house.proofs.Fitting.{Roomed, in-room}
 use Rattle.house.proofs.Packable.{proposed-writes, proposed-back}
 use Rattle.linked.specs.declared.Offer.the-variants.{Proposed, Refused}
@@ -102,6 +104,23 @@ module _ (room given : ℕ) (job : List ℕ) where
       go : (t : Bool) → fewPasses given ≡ t → Case room given job (if t then onJobRead room given (readJob job .words) (readJob job .outcome) else refused 21 0)
       go true e = on-read e (readJob job .outcome) refl
       go false e = outside e
+
+-- the law of the cases, for whoever asks less of each
+pub linked-cases : (P : Linked → Type 0) (room given : ℕ) (job : List ℕ) → P (refused 21 0)
+    → ((number place : ℕ) → readJob job .outcome ≡ Refuses number place → P (refused number place)) → P (refused 20 0)
+    → ((cell : ℕ) → cell < 120 → P (refused 10 cell)) → (given ≤ 200 → P (refused 14 given))
+    → ((j : Job) (s : State) (passes : ℕ) → Allowed j → P (counted passes (writtenAfter room j s))) → P (linkedOf room given job)
+linked-cases P room given job twenty-one pack twenty ten fourteen proposed = go (case room given job)
+  where
+    go : {r : Linked} → Case room given job r → P r
+    go (outside f) = twenty-one
+    go (unread number place f q) = pack number place q
+    go (wide k f q c) = twenty
+    go (thin k cell x f q c w) = ten cell (omega (arith, thin-cell (jobIn job) cell x w, read-jobs-allowed job k q .cells-few))
+    go (none r h) = fourteen (r .few)
+    go (first r h) =
+        let b = passesBefore (jobIn job) given in
+        proposed (jobIn job) (afterPass (jobIn job) (suc b)) (suc b) (read-jobs-allowed job (r .words) (r .read))
 
 -- ---- what an answer tells
 

@@ -1,4 +1,4 @@
--- The promises of the twelve calls over C, each a law whose type is its statement in specs/BenchPromises.antt: one general law about `Says`, and an
+-- The promises of the thirteen calls over C, each a law whose type is its statement in specs/BenchPromises.antt: one general law about `Says`, and an
 -- instance a call.
 use Prim.Native.Nat.{ℕ, _/_, _%_}
 use mathlib.Core.Path.{_≡_, refl, sym, ap, subst, _∙_}
@@ -12,6 +12,7 @@ use Rattle.jobs.specs.Packs.{readJobInto, writeJob}
 use Rattle.measure.specs.Check.{checkOf}
 use Rattle.terms.specs.Listing.{termsOf}
 use Rattle.house.specs.Proposal.{proposeOf}
+use Rattle.linked.specs.Proposal.{linkedOf}
 use Rattle.imports.specs.Imports.{importOf}
 use Rattle.exports.specs.Exports.{exportOf, ratesOf}
 use Rattle.checked.specs.declared.Answer.{Answer}
@@ -22,6 +23,7 @@ use Rattle.shelf.specs.Shelf.{keepReply}
 use Rattle.shelf.specs.Calls.{own, keep, fetch, forget, clear, after, said}
 use Rattle.bench.specs.Answers.{codeOf, answerWords, hasFour, returnedFor, writtenFor, Says}
 use Rattle.bench.proofs.Small.{Small, check-small}
+use Rattle.bench.proofs.Linked.{linked-small}
 use Rattle.bench.proofs.Outcomes.{propose-small, read-small, terms-small, write-small}
 use Rattle.bench.proofs.Listed.{import-small, export-small, rates-small}
 use Rattle.bench.proofs.Shelves.{said-small}
@@ -33,12 +35,13 @@ use Rattle.claims.proofs.Unwritten.{Kept, verdict-kept, write-kept, rea
 use Rattle.claims.proofs.CallNumbers.{check-number, propose-number, read-number, write-number, keep-number, fetch-number, forget-number, clear-number}
 use Rattle.claims.proofs.Seen.{run-seen, lists-seen, alone-seen, decided-seen}
 use Rattle.claims.proofs.ListCalls.{import-number, export-number, rates-number, import-kept, export-kept, rates-kept, import-within, export-within, rates-within}
+use Rattle.claims.proofs.LinkedCalls.{linked-number, linked-kept, linked-within}
 use Rattle.claims.proofs.HandedTerms.{terms-number, terms-kept, terms-within, terms-told}
 use Rattle.claims.proofs.Beyond.{beyond-made, beyond-values, write-within, read-within, propose-within, fetch-within}
 
 -- ---- determined
 
-one : {A : Type 0} {a : Answer} {answer : List ℕ} {before after : List A} {r s : ℕ} {p q : List ℕ} {x y : List A}
+pub one : {A : Type 0} {a : Answer} {answer : List ℕ} {before after : List A} {r s : ℕ} {p q : List ℕ} {x y : List A}
     → Says a answer before after r p x → Says a answer before after s q y → (r ≡ s) × (p ≡ q) × (x ≡ y)
 one f g = (f .returns ∙ sym (g .returns), f .answers ∙ sym (g .answers), f .leaves ∙ sym (g .leaves))
 
@@ -47,6 +50,7 @@ determined = record {
   check = λ job proposal answer r s a b x y f g. let e = one (f .0) (g .0) in (e .0, e .1, f .1 ∙ sym (g .1));
   terms = λ job proposal out answer r s a b x y f g. one f g;
   propose = λ job out answer r s a b x y f g. one f g;
+  propose-linked = λ job passes out answer r s a b x y f g. one f g;
   read = λ job words answer r s a b x y f g. one f g;
   write = λ words out answer r s a b x y f g. one f g;
   from-list = λ g text out answer r s a b x y f h. one f h;
@@ -125,6 +129,8 @@ numbered = record {
       numbered-by (terms-small (length out) job proposal) says (13 ∷ []) 8 (inl refl) (terms-number (length out) job proposal);
   propose = λ job out answer r a x says.
       numbered-by (propose-small (length out) job) says (10 ∷ 13 ∷ 20 ∷ []) 5 (inr (inl refl)) (propose-number (length out) job);
+  propose-linked = λ job passes out answer r a x says.
+      numbered-by (linked-small (length out) passes job) says (10 ∷ 13 ∷ 14 ∷ 20 ∷ 21 ∷ []) 5 (inr (inl refl)) (linked-number (length out) passes job);
   read = λ job words answer r a x says. numbered-by (read-small (length words) job) says (13 ∷ []) 5 (inl refl) (read-number (length words) job);
   write = λ words out answer r a x says. numbered-by (write-small (length out) words) says (13 ∷ []) 5 (inl refl) (write-number (length out) words);
   from-list = λ g text out answer r a x says.
@@ -149,6 +155,7 @@ refusals-kept = record {
       record { lent = says .1; told = u .told };
   terms = λ job proposal out answer r a x says n. kept-by (terms-small (length out) job proposal) says (terms-kept (length out) job proposal out) n;
   propose = λ job out answer r a x says n. kept-by (propose-small (length out) job) says (propose-kept (length out) job out) n;
+  propose-linked = λ job passes out answer r a x says n. kept-by (linked-small (length out) passes job) says (linked-kept (length out) passes job out) n;
   read = λ job words answer r a x says n. kept-by (read-small (length words) job) says (read-kept (length words) job words) n;
   write = λ words out answer r a x says n. kept-by (write-small (length out) words) says (write-kept (length out) (writeJob words) out) n;
   from-list = λ g text out answer r a x says n. kept-by (import-small g (length out) text) says (import-kept g (length out) text out) n;
@@ -167,6 +174,9 @@ rests-kept = record {
   propose = λ job out answer r a x says z.
       let made = proposeOf (length out) job in
       rest-by (propose-small (length out) job) says (λ m e. beyond-made (made .bytes) out m (omega (arith, e, propose-within (length out) job))) z;
+  propose-linked = λ job passes out answer r a x says z.
+      let made = linkedOf (length out) passes job in
+      rest-by (linked-small (length out) passes job) says (λ m e. beyond-made (made .bytes) out m (omega (arith, e, linked-within (length out) passes job))) z;
   read = λ job words answer r a x says z.
       let made = readJobInto (length words) job in
       rest-by (read-small (length words) job) says (λ m e. beyond-made (made .words) words m (omega (arith, e, read-within (length words) job))) z;

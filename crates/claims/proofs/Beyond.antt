@@ -87,12 +87,16 @@ handed-within room words (Done n) h = go (ltb room n)
 pub read-within : (room : ℕ) (job : List ℕ) → Within (readJobInto room job .outcome) (readJobInto room job .words)
 read-within room job = handed-within room (readJob job .words) (readJob job .outcome) (λ n e. omega (arith, read-words-counted job n e))
 
-ending-within : (room : ℕ) (j : Job) (v : List Float) (e : Ending) → Within (onEnding room j v e .outcome) (onEnding room j v e .bytes)
-ending-within room j v Whole =
-    let w = writeProposal (j .cells) (j .links) (wordsOf j v) in
+-- a proposal's words written
+pub proposal-within : (room : ℕ) (j : Job) (ws : List ℤ)
+    → Within (roomed room (writeProposal (j .cells) (j .links) ws) .outcome) (roomed room (writeProposal (j .cells) (j .links) ws) .bytes)
+proposal-within room j ws =
+    let w = writeProposal (j .cells) (j .links) ws in
     let first = valuesFrom (j .cells) (j .links) in
-    room-within room (w .bytes) (w .outcome)
-    (λ n e. omega (arith, length-written (wordsOf j v) first 0 n (six-done (writeFrom (wordsOf j v) first 0 .outcome) n e)))
+    room-within room (w .bytes) (w .outcome) (λ n e. omega (arith, length-written ws first 0 n (six-done (writeFrom ws first 0 .outcome) n e)))
+
+ending-within : (room : ℕ) (j : Job) (v : List Float) (e : Ending) → Within (onEnding room j v e .outcome) (onEnding room j v e .bytes)
+ending-within room j v Whole = proposal-within room j (wordsOf j v)
 ending-within room j v (Thin cell pivot) = omega arith
 
 proposed-within : (room : ℕ) (j : Job) → Within (proposedOf room j .outcome) (proposedOf room j .bytes)

@@ -30,12 +30,14 @@ pub mod HousePromises
 pub mod Unwritten
 pub mod Beyond
 pub mod ListCalls
+pub mod LinkedCalls
 pub mod CallNumbers
 pub mod FetchTold
 pub mod Seen
 pub mod HandedTerms
 pub mod BenchPromises
 pub mod ListPromises
+pub mod LinkedPromises
 pub mod TurnedCheck
 pub mod Ways
 pub mod Reversed

@@ -47,7 +47,7 @@ whole-room room bytes n long = go (ltb room n) refl
     go false e z = record { n = n; done = refl; long = long; fits = ltb-false room n e }
 
 -- they stand in front of the output
-front : (bytes out : List ℕ) {n : ℕ} → length bytes ≡ n → n ≤ length out → take n (sets out 0 bytes) ≡ bytes
+pub front : (bytes out : List ℕ) {n : ℕ} → length bytes ≡ n → n ≤ length out → take n (sets out 0 bytes) ≡ bytes
 front bytes out {n} e h = ap (take n) (sets-eq bytes out 0 (omega (arith, e, h))) ∙ take-at bytes (drop (0 + length bytes) out) n e
 
 -- ---- the import

@@ -1,4 +1,4 @@
--- What is promised of the twelve calls over C, whatever they are lent: short statements about the claims that their contracts cite. The proof of each
+-- What is promised of the thirteen calls over C, whatever they are lent: short statements about the claims that their contracts cite. The proof of each
 -- stands in proofs/BenchPromises.antt.
 use Prim.Native.Nat.{ℕ, _+_, _*_, _/_, _%_, _≤_, _<_}
 use mathlib.Core.Path.{_≡_}
@@ -19,7 +19,7 @@ use Rattle.counts.specs.declared.Row.the-variants.{Right}
 use Rattle.counts.specs.Counts.{shelfWords, countIn, testRow, rowIn, Ready}
 use Rattle.shelf.specs.Calls.{Call, own, keep, forget, clear}
 use Rattle.bench.specs.Answers.{hasFour}
-use Rattle.bench.specs.Calls.{CheckSays, TermsSays, ProposeSays, ReadSays, WriteSays, ImportSays, ExportSays, RatesSays, ShelfSays, FetchSays}
+use Rattle.bench.specs.Calls.{CheckSays, TermsSays, ProposeSays, ProposeLinkedSays, ReadSays, WriteSays, ImportSays, ExportSays, RatesSays, ShelfSays, FetchSays}
 use Rattle.claims.specs.Read.{jobIn, valuesIn, multipliersIn, gapIn}
 use Rattle.claims.specs.Meets.{NoneBelow}
 use Rattle.claims.specs.Far.{NoneFar}
@@ -37,6 +37,7 @@ pub record OfEachCall (holds : (A : Type 0) (answer : List ℕ) (before : List A
   pub check : (job proposal answer : List ℕ) → holds ℕ answer [] (λ r a left. CheckSays job proposal answer r a × (left ≡ []))
   pub terms : (job proposal : List ℕ) (out : List ℤ) (answer : List ℕ) → holds ℤ answer out (TermsSays job proposal out answer)
   pub propose : (job out answer : List ℕ) → holds ℕ answer out (ProposeSays job out answer)
+  pub propose-linked : (job : List ℕ) (passes : ℕ) (out answer : List ℕ) → holds ℕ answer out (ProposeLinkedSays job passes out answer)
   pub read : (job : List ℕ) (words : List ℤ) (answer : List ℕ) → holds ℤ answer words (ReadSays job words answer)
   pub write : (words : List ℤ) (out answer : List ℕ) → holds ℕ answer out (WriteSays words out answer)
   pub from-list : (g : Given) (text out answer : List ℕ) → holds ℕ answer out (ImportSays g text out answer)
@@ -66,12 +67,13 @@ Among (other ∷ others) most number = (number ≡ other) ⊎ Among others most 
 abbrev pub NumberIn : (others : List ℕ) (most : ℕ) {A : Type 0} → Claim A → Type 0
 NumberIn others most {A} claim = (r : ℕ) (a : List ℕ) (x : List A) → claim r a x → Among others most (r % 32)
 
--- Each call gives the numbers that the table of document 01, with 20 of document 02 (W-205), W-203's for a fetch and 22 of W-209, has for it, and no
--- other: a fetch never gives 11, and the terms (W-202) never 9.
+-- Each call gives the numbers that the table of document 01, with 20 of document 02 (W-205), W-203's for a fetch, 22 of W-209 and 14 and 21 of W-207, has
+-- for it, and no other: a fetch never gives 11, and the terms (W-202) never 9.
 pub record Numbered : Type 0 where
   pub check : (job proposal answer : List ℕ) (r : ℕ) (a : List ℕ) → CheckSays job proposal answer r a → Among (13 ∷ []) 9 (r % 32)
   pub terms : (job proposal : List ℕ) (out : List ℤ) (answer : List ℕ) → NumberIn (13 ∷ []) 8 (TermsSays job proposal out answer)
   pub propose : (job out answer : List ℕ) → NumberIn (10 ∷ 13 ∷ 20 ∷ []) 5 (ProposeSays job out answer)
+  pub propose-linked : (job : List ℕ) (passes : ℕ) (out answer : List ℕ) → NumberIn (10 ∷ 13 ∷ 14 ∷ 20 ∷ 21 ∷ []) 5 (ProposeLinkedSays job passes out answer)
   pub read : (job : List ℕ) (words : List ℤ) (answer : List ℕ) → NumberIn (13 ∷ []) 5 (ReadSays job words answer)
   pub write : (words : List ℤ) (out answer : List ℕ) → NumberIn (13 ∷ []) 5 (WriteSays words out answer)
   pub from-list : (g : Given) (text out answer : List ℕ) → NumberIn (2 ∷ 3 ∷ 4 ∷ 13 ∷ 16 ∷ 17 ∷ 18 ∷ 19 ∷ []) 0 (ImportSays g text out answer)
@@ -102,6 +104,7 @@ RefusalsKept = OfEachCall RefusalKept
 pub record OfEachOutput (holds : (A : Type 0) (answer : List ℕ) (before : List A) → Claim A → Type 0) : Type 0 where
   pub terms : (job proposal : List ℕ) (out : List ℤ) (answer : List ℕ) → holds ℤ answer out (TermsSays job proposal out answer)
   pub propose : (job out answer : List ℕ) → holds ℕ answer out (ProposeSays job out answer)
+  pub propose-linked : (job : List ℕ) (passes : ℕ) (out answer : List ℕ) → holds ℕ answer out (ProposeLinkedSays job passes out answer)
   pub read : (job : List ℕ) (words : List ℤ) (answer : List ℕ) → holds ℤ answer words (ReadSays job words answer)
   pub write : (words : List ℤ) (out answer : List ℕ) → holds ℕ answer out (WriteSays words out answer)
   pub from-list : (g : Given) (text out answer : List ℕ) → holds ℕ answer out (ImportSays g text out answer)

@@ -15,5 +15,6 @@ pub mod HousePromises
 pub mod Seen
 pub mod BenchPromises
 pub mod ListPromises
+pub mod LinkedPromises
 pub mod Reversed
 pub mod ReversedPromises

@@ -41,7 +41,7 @@ only-room room bytes m {number} {place} e = go (ltb room m) e
     go true e = let q : 13 ≡ number = cc in sym q
     go false e = clash (cc)
 
-written-room : (room : ℕ) {cells links : ℕ} (ws : List ℤ) → ProposedFor cells links ws → {number place : ℕ}
+pub written-room : (room : ℕ) {cells links : ℕ} (ws : List ℤ) → ProposedFor cells links ws → {number place : ℕ}
     → inRoom room (writeProposal cells links ws .bytes) (writeProposal cells links ws .outcome) .outcome ≡ Refuses number place → number ≡ 13
 written-room room {cells} {links} ws p {number} {place} e =
     let w = proposed-writes ws p in

@@ -22,6 +22,7 @@ use Rattle.jobs.proofs.Handed.{scratch-part}
 use Rattle.factor.specs.declared.Ending.{Ending}
 use Rattle.factor.specs.declared.Ending.the-variants.{Whole, Thin}
 use Rattle.house.specs.Known.{Known}
+use Rattle.house.specs.Factoring.{Solved, Solves}
 use Rattle.house.specs.Filled.{filled}
 use Rattle.house.specs.Proposal.{solvedOf, valueOf, wordsOf, writtenOf, onEnding, proposedOf, onJobRead, proposeOf}
 use Rattle.house.proofs.Fills.{filled-append, length-filled, take-filled}
@@ -43,17 +44,22 @@ pub wide-refused : (room : ℕ) (j : Job) → 12 < j .columns → refused 20 0 �
 unfolding proposedOf
 wide-refused room j h = ap {B = Written} (λ (b : Bool). if b then refused 20 0 else onEnding room j (solvedOf j .values) (solvedOf j .ending)) (sym (lt-ltb 12 (j .columns) h))
 
-module _ (room : ℕ) (j : Job) (few : j .columns ≤ 12) {e : Ending} {v : List Float} (h : (e ≡ solvedOf j .ending) × (v ≡ solvedOf j .values)) where
-  case : onEnding room j v e ≡ proposedOf room j
+module _ (room : ℕ) (j : Job) (few : j .columns ≤ 12) where
+  pub narrow-proposed : onEnding room j (solvedOf j .values) (solvedOf j .ending) ≡ proposedOf room j
   unfolding proposedOf
-  case = rw (h .0, h .1)
-      (ap {B = Written} (λ (b : Bool). if b then refused 20 0 else onEnding room j (solvedOf j .values) (solvedOf j .ending)) (sym (le-ltb 12 (j .columns) few)))
+  narrow-proposed =
+      ap {B = Written} (λ (b : Bool). if b then refused 20 0 else onEnding room j (solvedOf j .values) (solvedOf j .ending)) (sym (le-ltb 12 (j .columns) few))
 
-  pub thin-refused : {cell : ℕ} {x : Float} → e ≡ Thin cell x → refused 10 cell ≡ proposedOf room j
-  thin-refused t = ap {B = Written} (onEnding room j v) (sym t) ∙ case
+  pub thin-refused : {cell : ℕ} {x : Float} → solvedOf j .ending ≡ Thin cell x → refused 10 cell ≡ proposedOf room j
+  thin-refused t = ap {B = Written} (onEnding room j (solvedOf j .values)) (sym t) ∙ narrow-proposed
 
-  pub whole-written : e ≡ Whole → writtenOf room j v ≡ proposedOf room j
-  whole-written t = ap {B = Written} (onEnding room j v) (sym t) ∙ case
+  pub whole-written : solvedOf j .ending ≡ Whole → writtenOf room j (solvedOf j .values) ≡ proposedOf room j
+  whole-written t = ap {B = Written} (onEnding room j (solvedOf j .values)) (sym t) ∙ narrow-proposed
+
+-- what a solve by another name answers and leaves
+pub ending-is : (room : ℕ) (j : Job) {s : Solved} → s ≡ solvedOf j → {e : Ending} {d l v : List Float} → Solves s e d l v
+    → onEnding room j v e ≡ onEnding room j (solvedOf j .values) (solvedOf j .ending)
+ending-is room j p h = rw (h .0, h .3) (ap {B = Written} (λ (s : Solved). onEnding room j (s .values) (s .ending)) p)
 
 -- ---- the words of the proposal
 

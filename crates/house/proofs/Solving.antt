@@ -74,12 +74,3 @@ module _ (j : Job) where
   pub grid-is : j .grid ≡ true → gridSolved j ≡ solvedOf j
   unfolding solvedOf
   grid-is g = ap {B = Solved} (λ (b : Bool). if b then gridSolved j else lineSolved j) (sym g)
-
-  abbrev Told : Solved → Ending → List Float → Type 0
-  Told s e v = (e ≡ s .ending) × (v ≡ s .values)
-
-  pub solved-line : j .grid ≡ false → {e : Ending} {v : List Float} → Told (lineSolved j) e v → Told (solvedOf j) e v
-  solved-line g {e} {v} h = subst (λ (s : Solved). Told s e v) (line-is g) h
-
-  pub solved-grid : j .grid ≡ true → {e : Ending} {v : List Float} → Told (gridSolved j) e v → Told (solvedOf j) e v
-  solved-grid g {e} {v} h = subst (λ (s : Solved). Told s e v) (grid-is g) h

@@ -23,40 +23,15 @@ ghost use Prim.Native.Nat.{_≤_, _<_};
 ghost use lib.IntN.{pos};
 ghost use lib.Ieee.{nan};
 ghost use lib.ListN.{length, getD, replicate};
-ghost use lib.Seq.{sets};
+ghost use Rattle.packs.specs.Writing.{Leaves};
 ghost use Rattle.jobs.specs.Words.{jobOf, cellsOf, columnsOf, orderOf};
 ghost use Rattle.house.specs.Known.{Known};
 ghost use Rattle.house.specs.Filled.{filled};
-ghost use Rattle.house.specs.Band.{rightOf};
-ghost use Rattle.house.specs.Grid.{gridSolved};
 ghost use Rattle.house.specs.Held.{Narrow};
-ghost use Rattle.house.specs.Proposal.{lineSolved, solvedOf, valueOf, writtenOf, proposedOf, proposeOf};
+ghost use Rattle.house.specs.Proposal.{solvedOf, valueOf, writtenOf, onEnding, proposedOf, proposeOf};
 
 // The most columns of a grid.
 const COLUMNS: usize = 12;
-
-// The values before rounding of a line, and of a grid, in place of the right side, with room of their own for the factor.
-fn line_values(words: &[i64], z: usize, v: &mut [f64; CELLS]) -> Ending
-    requires { ⌜ Known (now words) × (z ≡ orderOf (now words)) × (now v ≡ rightOf (jobOf (now words))) ⌝ }
-    ensures { λ r. ⌜ (r ≡ lineSolved (jobOf (now (words .entry))) .ending) × (now (v .exit) ≡ lineSolved (jobOf (now (words .entry))) .values) ⌝ }
-{
-    let n = cells_of(words);
-    let starts = starts_of(n, z);
-    let mut d = [0.0; CELLS];
-    let mut l = [0.0; LINE_PLACES];
-    solve_line(words, z, &starts, &mut d, &mut l, v)
-}
-
-fn grid_values(words: &[i64], z: usize, v: &mut [f64; CELLS]) -> Ending
-    requires { ⌜ Narrow (now words) z × (now v ≡ rightOf (jobOf (now words))) ⌝ }
-    ensures { λ r. ⌜ (r ≡ gridSolved (jobOf (now (words .entry))) .ending) × (now (v .exit) ≡ gridSolved (jobOf (now (words .entry))) .values) ⌝ }
-{
-    let n = cells_of(words);
-    let starts = starts_of(n, z);
-    let mut d = [0.0; CELLS];
-    let mut l = [0.0; GRID_PLACES];
-    solve_grid(words, z, &starts, &mut d, &mut l, v)
-}
 
 // v rounded out into the box of the cell i.
 fn value_at(words: &[i64], i: usize, v: f64) -> i64
@@ -84,7 +59,7 @@ pub fn values_into(words: &[i64], n: usize, v: &[f64; CELLS], made: &mut [i64])
 // The multipliers are zeros after the values, which take no words of their own.
 fn write_values(words: &[i64], v: &[f64; CELLS], out: &mut [u8]) -> Outcome
     requires { ⌜ Known (now words) ⌝ }
-    ensures { λ r. ⌜ (r ≡ writtenOf (length (now (out .entry))) (jobOf (now (words .entry))) (now (v .entry)) .outcome) × (now (out .exit) ≡ sets (now (out .entry)) 0 (writtenOf (length (now (out .entry))) (jobOf (now (words .entry))) (now (v .entry)) .bytes)) ⌝ }
+    ensures { λ r. ⌜ Leaves (writtenOf (length (now (out .entry))) (jobOf (now (words .entry))) (now (v .entry))) (now (out .entry)) r (now (out .exit)) ⌝ }
 {
     let n = cells_of(words);
     let links = links_of(words, n);
@@ -93,62 +68,96 @@ fn write_values(words: &[i64], v: &[f64; CELLS], out: &mut [u8]) -> Outcome
     packs::writing::put_padded(&values[0..n], links, out)
 }
 
+// What is written by how the factoring ended.
+fn on_ending(ending: Ending, words: &[i64], v: &[f64; CELLS], out: &mut [u8]) -> Outcome
+    requires { ⌜ Known (now words) ⌝ }
+    ensures { λ r. ⌜ Leaves (onEnding (length (now (out .entry))) (jobOf (now (words .entry))) (now (v .entry)) ending) (now (out .entry)) r (now (out .exit)) ⌝ }
+{
+    match ending {
+        Ending::Thin(cell, _) => Outcome::Refused(10, cell),
+        Ending::Whole => write_values(words, v, out),
+    }
+}
+
+// The proposal for a line, and for a grid, each with room for its own factor.
+fn propose_line(words: &[i64], z: usize, out: &mut [u8]) -> Outcome
+    requires { ⌜ Known (now words) × (columnsOf (now words) ≡ 1) × (z ≡ orderOf (now words)) ⌝ }
+    ensures { λ r. ⌜ Leaves (onEnding (length (now (out .entry))) (jobOf (now (words .entry))) (solvedOf (jobOf (now (words .entry))) .values) (solvedOf (jobOf (now (words .entry))) .ending)) (now (out .entry)) r (now (out .exit)) ⌝ }
+{
+    let n = cells_of(words);
+    let starts = starts_of(n, z);
+    let mut d = [0.0; CELLS];
+    let mut l = [0.0; LINE_PLACES];
+    let mut v = [0.0; CELLS];
+    right(words, &mut v);
+    let ending = solve_line(words, z, &starts, &mut d, &mut l, &mut v);
+    on_ending(ending, words, &v, out)
+}
+
+fn propose_grid(words: &[i64], z: usize, out: &mut [u8]) -> Outcome
+    requires { ⌜ Narrow (now words) z × (columnsOf (now words) ≡ 1 → ⊥) ⌝ }
+    ensures { λ r. ⌜ Leaves (onEnding (length (now (out .entry))) (jobOf (now (words .entry))) (solvedOf (jobOf (now (words .entry))) .values) (solvedOf (jobOf (now (words .entry))) .ending)) (now (out .entry)) r (now (out .exit)) ⌝ }
+{
+    let n = cells_of(words);
+    let starts = starts_of(n, z);
+    let mut d = [0.0; CELLS];
+    let mut l = [0.0; GRID_PLACES];
+    let mut v = [0.0; CELLS];
+    right(words, &mut v);
+    let ending = solve_grid(words, z, &starts, &mut d, &mut l, &mut v);
+    on_ending(ending, words, &v, out)
+}
+
 // The same of a low order, and a grid of a small reach. A function that is called from one place only is compiled into its caller, with its room on the
 // stack; with these, the two that need room are called from two places, and a line does not pay for a grid's room, nor a grid for a line's.
-fn low_line_values(words: &[i64], z: usize, v: &mut [f64; CELLS]) -> Ending
-    requires { ⌜ Known (now words) × (z ≡ orderOf (now words)) × (now v ≡ rightOf (jobOf (now words))) ⌝ }
-    ensures { λ r. ⌜ (r ≡ lineSolved (jobOf (now (words .entry))) .ending) × (now (v .exit) ≡ lineSolved (jobOf (now (words .entry))) .values) ⌝ }
+fn propose_low_line(words: &[i64], z: usize, out: &mut [u8]) -> Outcome
+    requires { ⌜ Known (now words) × (columnsOf (now words) ≡ 1) × (z ≡ orderOf (now words)) ⌝ }
+    ensures { λ r. ⌜ Leaves (onEnding (length (now (out .entry))) (jobOf (now (words .entry))) (solvedOf (jobOf (now (words .entry))) .values) (solvedOf (jobOf (now (words .entry))) .ending)) (now (out .entry)) r (now (out .exit)) ⌝ }
 {
-    line_values(words, z, v)
+    propose_line(words, z, out)
 }
 
-fn small_grid_values(words: &[i64], z: usize, v: &mut [f64; CELLS]) -> Ending
-    requires { ⌜ Narrow (now words) z × (now v ≡ rightOf (jobOf (now words))) ⌝ }
-    ensures { λ r. ⌜ (r ≡ gridSolved (jobOf (now (words .entry))) .ending) × (now (v .exit) ≡ gridSolved (jobOf (now (words .entry))) .values) ⌝ }
+fn propose_small_grid(words: &[i64], z: usize, out: &mut [u8]) -> Outcome
+    requires { ⌜ Narrow (now words) z × (columnsOf (now words) ≡ 1 → ⊥) ⌝ }
+    ensures { λ r. ⌜ Leaves (onEnding (length (now (out .entry))) (jobOf (now (words .entry))) (solvedOf (jobOf (now (words .entry))) .values) (solvedOf (jobOf (now (words .entry))) .ending)) (now (out .entry)) r (now (out .exit)) ⌝ }
 {
-    grid_values(words, z, v)
+    propose_grid(words, z, out)
 }
 
-// The values before rounding of any job, in place of its right side. A job that is no grid has one column.
-fn solve_job(words: &[i64], columns: usize, v: &mut [f64; CELLS]) -> Ending
-    requires { ⌜ Known (now words) × (columns ≡ columnsOf (now words)) × (columns ≤ 12) × (now v ≡ rightOf (jobOf (now words))) ⌝ }
-    ensures { λ r. ⌜ (r ≡ solvedOf (jobOf (now (words .entry))) .ending) × (now (v .exit) ≡ solvedOf (jobOf (now (words .entry))) .values) ⌝ }
+// The proposal by what the job is. A job that is no grid has one column.
+fn propose_shape(words: &[i64], columns: usize, out: &mut [u8]) -> Outcome
+    requires { ⌜ Known (now words) × (columns ≡ columnsOf (now words)) × (columns ≤ 12) ⌝ }
+    ensures { λ r. ⌜ Leaves (onEnding (length (now (out .entry))) (jobOf (now (words .entry))) (solvedOf (jobOf (now (words .entry))) .values) (solvedOf (jobOf (now (words .entry))) .ending)) (now (out .entry)) r (now (out .exit)) ⌝ }
 {
     let order = order_of(words);
     if columns == 1 {
         if order <= 2 {
-            return low_line_values(words, order, v);
+            return propose_low_line(words, order, out);
         }
-        return line_values(words, order, v);
+        return propose_line(words, order, out);
     }
     let z = order * columns;
     if z <= 12 {
-        return small_grid_values(words, z, v);
+        return propose_small_grid(words, z, out);
     }
-    grid_values(words, z, v)
+    propose_grid(words, z, out)
 }
 
 // The proposal for the words of a job that was read.
 pub fn propose_for(words: &[i64], out: &mut [u8]) -> Outcome
     requires { ⌜ Known (now words) ⌝ }
-    ensures { λ r. ⌜ (r ≡ proposedOf (length (now (out .entry))) (jobOf (now (words .entry))) .outcome) × (now (out .exit) ≡ sets (now (out .entry)) 0 (proposedOf (length (now (out .entry))) (jobOf (now (words .entry))) .bytes)) ⌝ }
+    ensures { λ r. ⌜ Leaves (proposedOf (length (now (out .entry))) (jobOf (now (words .entry)))) (now (out .entry)) r (now (out .exit)) ⌝ }
 {
     let columns = columns_of(words);
     if COLUMNS < columns {
         return Outcome::Refused(20, 0);
     }
-    let mut v = [0.0; CELLS];
-    right(words, &mut v);
-    let ending = solve_job(words, columns, &mut v);
-    match ending {
-        Ending::Thin(cell, _) => Outcome::Refused(10, cell),
-        Ending::Whole => write_values(words, &v, out),
-    }
+    propose_shape(words, columns, out)
 }
 
 // The house proposal for a job pack. A refusal writes nothing; room is tested last.
 pub fn propose(job: &[u8], out: &mut [u8]) -> Outcome
-    ensures { λ r. ⌜ (r ≡ proposeOf (length (now (out .entry))) (now (job .entry)) .outcome) × (now (out .exit) ≡ sets (now (out .entry)) 0 (proposeOf (length (now (out .entry))) (now (job .entry)) .bytes)) ⌝ }
+    ensures { λ r. ⌜ Leaves (proposeOf (length (now (out .entry))) (now (job .entry))) (now (out .entry)) r (now (out .exit)) ⌝ }
 {
     let mut words = [0i64; JOB_WORDS];
     let r = packs::reading::read(job, Field::Society, &mut words);

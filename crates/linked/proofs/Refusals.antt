@@ -84,7 +84,7 @@ module _ (room given : ℕ) (job : List ℕ) (h : 1 ≤ given) (l : given ≤ 20
   house-proposes r e =
       let j = jobIn job in
       let v = solvedOf j .values in
-      let p : proposeOf room job ≡ writtenOf room j v = house-read (r .read) ∙ sym (whole-written room j (r .narrow) (refl, refl) (r .whole)) in
+      let p : proposeOf room job ≡ writtenOf room j v = house-read (r .read) ∙ sym (whole-written room j (r .narrow) (r .whole)) in
       not-room (written-room room (wordsOf j v) (words-proposed j v (read-jobs-allowed job (r .words) (r .read))) (sym (ap {B = Outcome} (λ (w : Written). w .outcome) p) ∙ e))
 
   linked-proposes : (r : Ready given job) (s : State) (passes : ℕ) → counted passes (writtenAfter room (jobIn job) s) .offer ≡ Refused number place → ⊥
@@ -95,7 +95,7 @@ module _ (room given : ℕ) (job : List ℕ) (h : 1 ≤ given) (l : given ≤ 20
   by-case (outside f) = let t = passes-few room given job h l in clash (cc)
   by-case (unread a b f q) = alike a b (ap {B = Written} (onHouseRead room (readJob job .words)) q) refl
   by-case (wide k f q c) = alike 20 0 (house-read q ∙ sym (wide-refused room (jobIn job) c)) refl
-  by-case (thin k cell x f q c w) = alike 10 cell (house-read q ∙ sym (thin-refused room (jobIn job) c (refl, refl) w)) refl
+  by-case (thin k cell x f q c w) = alike 10 cell (house-read q ∙ sym (thin-refused room (jobIn job) c w)) refl
   by-case (none r b) = (λ e. absurd (not-none (let x : 14 ≡ number = cc in sym x)), λ e. absurd (house-proposes r e))
   by-case (first r b) =
       let s = afterPass (jobIn job) (suc (passesBefore (jobIn job) given)) in

@@ -1,6 +1,5 @@
 // The house proposal that honours links (document 02, W-207): pass after pass the rounded proposal is checked, up to the first that is accepted.
-use crate::search::search_grid;
-use crate::search::search_line;
+use crate::search::search_shape;
 use fields::Field;
 use jobs::job::JOB_WORDS;
 use jobs::words::columns_of;
@@ -38,10 +37,7 @@ fn propose_for(words: &[i64], given: u64, out: &mut [u8]) -> Offer
             place: 0,
         };
     }
-    if columns == 1 {
-        return search_line(words, given, out);
-    }
-    search_grid(words, columns, given, out)
+    search_shape(words, columns, given, out)
 }
 
 // The house proposal that honours links, for a job pack and at most so many passes. A refusal writes nothing; room is tested last.

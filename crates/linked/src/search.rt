@@ -20,8 +20,9 @@ use passes::method::pass;
 ghost use mathlib.Core.Path.{_≡_};
 ghost use Prim.Native.Nat.{suc, _≤_, min};
 ghost use lib.ListN.{length};
-ghost use Rattle.jobs.specs.Words.{columnsOf, jobOf};
+ghost use Rattle.jobs.specs.Words.{columnsOf, orderOf, jobOf};
 ghost use Rattle.house.specs.Known.{Known};
+ghost use Rattle.house.specs.Held.{Narrow};
 ghost use Rattle.house.specs.Proposal.{solvedOf};
 ghost use Rattle.passes.specs.Hildreth.{afterPass};
 ghost use Rattle.passes.specs.OnWords.{state};
@@ -120,12 +121,11 @@ fn on_ending(
 }
 
 // The offer for a line, and for a grid, each with room for its own factor.
-pub fn search_line(words: &[i64], given: u64, out: &mut [u8]) -> Offer
-    requires { ⌜ Known (now words) × (columnsOf (now words) ≡ 1) × (given ≤ 200) ⌝ }
+fn search_line(words: &[i64], z: usize, given: u64, out: &mut [u8]) -> Offer
+    requires { ⌜ Known (now words) × (columnsOf (now words) ≡ 1) × (z ≡ orderOf (now words)) × (given ≤ 200) ⌝ }
     ensures { λ r. ⌜ Ends (onEnding (length (now (out .entry))) given (jobOf (now (words .entry))) (solvedOf (jobOf (now (words .entry))) .ending)) (now (out .entry)) r (now (out .exit)) ⌝ }
 {
     let n = cells_of(words);
-    let z = order_of(words);
     let starts = starts_of(n, z);
     let mut d = [0.0; CELLS];
     let mut l = [0.0; LINE_PLACES];
@@ -135,12 +135,11 @@ pub fn search_line(words: &[i64], given: u64, out: &mut [u8]) -> Offer
     on_ending(ending, words, n, z, &d, &l, &starts, given, &mut v, out)
 }
 
-pub fn search_grid(words: &[i64], columns: usize, given: u64, out: &mut [u8]) -> Offer
-    requires { ⌜ Known (now words) × (columns ≡ columnsOf (now words)) × (columns ≡ 1 → ⊥) × (columns ≤ 12) × (given ≤ 200) ⌝ }
+fn search_grid(words: &[i64], z: usize, given: u64, out: &mut [u8]) -> Offer
+    requires { ⌜ Narrow (now words) z × (columnsOf (now words) ≡ 1 → ⊥) × (given ≤ 200) ⌝ }
     ensures { λ r. ⌜ Ends (onEnding (length (now (out .entry))) given (jobOf (now (words .entry))) (solvedOf (jobOf (now (words .entry))) .ending)) (now (out .entry)) r (now (out .exit)) ⌝ }
 {
     let n = cells_of(words);
-    let z = order_of(words) * columns;
     let starts = starts_of(n, z);
     let mut d = [0.0; CELLS];
     let mut l = [0.0; GRID_PLACES];
@@ -148,4 +147,38 @@ pub fn search_grid(words: &[i64], columns: usize, given: u64, out: &mut [u8]) ->
     right(words, &mut v);
     let ending = solve_grid(words, z, &starts, &mut d, &mut l, &mut v);
     on_ending(ending, words, n, z, &d, &l, &starts, given, &mut v, out)
+}
+
+// The same of a low order, and a grid of a small reach: with these, as at the house proposal, a line does not pay for a grid's room.
+fn search_low_line(words: &[i64], z: usize, given: u64, out: &mut [u8]) -> Offer
+    requires { ⌜ Known (now words) × (columnsOf (now words) ≡ 1) × (z ≡ orderOf (now words)) × (given ≤ 200) ⌝ }
+    ensures { λ r. ⌜ Ends (onEnding (length (now (out .entry))) given (jobOf (now (words .entry))) (solvedOf (jobOf (now (words .entry))) .ending)) (now (out .entry)) r (now (out .exit)) ⌝ }
+{
+    search_line(words, z, given, out)
+}
+
+fn search_small_grid(words: &[i64], z: usize, given: u64, out: &mut [u8]) -> Offer
+    requires { ⌜ Narrow (now words) z × (columnsOf (now words) ≡ 1 → ⊥) × (given ≤ 200) ⌝ }
+    ensures { λ r. ⌜ Ends (onEnding (length (now (out .entry))) given (jobOf (now (words .entry))) (solvedOf (jobOf (now (words .entry))) .ending)) (now (out .entry)) r (now (out .exit)) ⌝ }
+{
+    search_grid(words, z, given, out)
+}
+
+// The offer by what the job is. A job that is no grid has one column.
+pub fn search_shape(words: &[i64], columns: usize, given: u64, out: &mut [u8]) -> Offer
+    requires { ⌜ Known (now words) × (columns ≡ columnsOf (now words)) × (columns ≤ 12) × (given ≤ 200) ⌝ }
+    ensures { λ r. ⌜ Ends (onEnding (length (now (out .entry))) given (jobOf (now (words .entry))) (solvedOf (jobOf (now (words .entry))) .ending)) (now (out .entry)) r (now (out .exit)) ⌝ }
+{
+    let order = order_of(words);
+    if columns == 1 {
+        if order <= 2 {
+            return search_low_line(words, order, given, out);
+        }
+        return search_line(words, order, given, out);
+    }
+    let z = order * columns;
+    if z <= 12 {
+        return search_small_grid(words, z, given, out);
+    }
+    search_grid(words, z, given, out)
 }

@@ -1,5 +1,5 @@
--- The columns pick the case.
-use mathlib.Core.Path.{refl, sym, _∙_}
+-- A grid that is too wide is refused.
+use mathlib.Core.Path.{refl}
 use native.Mathlib.Omega.{arith}
 use denote.Ref.{now}
 use lib.ListN.{length}
@@ -15,33 +15,18 @@ columns-of-requires c κs = search needs
 returns : tie.Need-returns
 returns c =
     let s = c .before .before .before in
-    rw (← wide-linked (length (now (s .args .out))) (s .args .given) (jobOf (s .args .words .now)) (omega (arith, c .before .columns-of .ensures))) (refl, refl)
+    rw (← wide-linked (length (now (s .args .out))) (s .args .given) (jobOf (s .args .words .now)) (omega (arith, c .if1 .taken, c .before .columns-of .ensures))) (refl, refl)
 
-search-line-requires : tie.Need-search-line-requires
-search-line-requires c κs =
-    let s = c .before .before .before .before .before in
-    (s .pre .0, sym (c .before .before .before .columns-of .ensures) ∙ c .before .if2 .taken, s .pre .1)
+search-shape-requires : tie.Need-search-shape-requires
+search-shape-requires c κs = let s = c .before .before .before .before in (s .pre .0, c .before .before .columns-of .ensures, omega (arith, c .before .if1 .left), s .pre .1)
 
 same-length : tie.Need-same-length
 same-length c = search needs
 
 returns-2 : tie.Need-returns-2
 returns-2 c =
-    let s = c .before .before .before .before .before .before .before .before in
-    rw (← narrow-linked (length (now (s .args .out))) (s .args .given) (jobOf (s .args .words .now)) (omega (arith, c .before .before .before .before .before .before .columns-of .ensures))) (c .before .before .search-line .ensures)
-
-search-grid-requires : tie.Need-search-grid-requires
-search-grid-requires c κs =
-    let s = c .before .before .before .before .before in
-    (s .pre .0, c .before .before .before .columns-of .ensures, c .before .if2 .left, omega arith, s .pre .1)
-
-same-length-2 : tie.Need-same-length-2
-same-length-2 c = search needs
-
-returns-3 : tie.Need-returns-3
-returns-3 c =
-    let s = c .before .before .before .before .before .before .before .before in
-    rw (← narrow-linked (length (now (s .args .out))) (s .args .given) (jobOf (s .args .words .now)) (omega (arith, c .before .before .before .before .before .before .columns-of .ensures))) (c .before .before .search-grid .ensures)
+    let s = c .before .before .before .before .before .before .before in
+    rw (← narrow-linked (length (now (s .args .out))) (s .args .given) (jobOf (s .args .words .now)) (omega (arith, c .before .before .before .before .if1 .left, c .before .before .before .before .before .columns-of .ensures))) (c .before .before .search-shape .ensures)
 
 pub propose-for-spec : {M : Type 1} → statement M
 propose-for-spec =
@@ -49,9 +34,6 @@ propose-for-spec =
     (tie.spec
     columns-of-requires
     returns
-    search-line-requires
+    search-shape-requires
     same-length
-    returns-2
-    search-grid-requires
-    same-length-2
-    returns-3)
+    returns-2)

@@ -11,32 +11,29 @@ use Rattle.linked.proofs.search.search_line.Tie as tie
 cells-of-requires : tie.Need-cells-of-requires
 cells-of-requires c κs = search needs
 
-order-of-requires : tie.Need-order-of-requires
-order-of-requires c κs = search needs
-
 starts-of-requires : tie.Need-starts-of-requires
 starts-of-requires c κs = search needs
 
 right-requires : tie.Need-right-requires
 unfolding ofBits
-right-requires c κs = (c .before .before .before .before .before .pre .0, refl)
+right-requires c κs = (c .before .before .before .before .pre .0, refl)
 
 solve-line-requires : tie.Need-solve-line-requires
 unfolding ofBits
 solve-line-requires c κs =
-    let s = c .before .before .before .before .before .before .before .before .before .before in
-    (s .pre .0, c .before .before .before .before .before .before .before .order-of .ensures, rw (← c .before .before .before .before .before .before .before .before .cells-of .ensures) (c .before .before .before .before .before .before .starts-of .ensures), refl, refl, c .before .before .before .before .right .ensures)
+    let s = c .before .before .before .before .before .before .before .before .before in
+    (s .pre .0, s .pre .2, rw (← c .before .before .before .before .before .before .before .cells-of .ensures) (c .before .before .before .before .before .before .starts-of .ensures), refl, refl, c .before .before .before .before .right .ensures)
 
 slice-aggregate-on-ending : tie.Need-slice-aggregate-on-ending
 slice-aggregate-on-ending c =
-    let long = ap length (c .before .before .solve-line .ensures .2) ∙ line-room (jobOf (c .before .before .before .before .before .before .before .before .before .before .before .before .before .args .words .now)) in
+    let long = ap length (c .before .before .solve-line .ensures .2) ∙ line-room (jobOf (c .before .before .before .before .before .before .before .before .before .before .before .before .args .words .now)) in
     search needs
 
 on-ending-requires : tie.Need-on-ending-requires
 on-ending-requires c κs =
-    let s = c .before .before .before .before .before .before .before .before .before .before .before .before .before .before .before .before in
-    let r = line-ready (s .pre .0) (c .before .before .before .before .before .before .before .before .before .before .before .before .before .before .cells-of .ensures) (c .before .before .before .before .before .before .before .before .before .before .before .before .starts-of .ensures) (s .pre .1) (c .before .before .before .before .before .before .before .before .before .before .before .before .before .order-of .ensures) (c .before .before .before .before .before .solve-line .ensures) in
-    (r .0, r .1, r .2, s .pre .2)
+    let s = c .before .before .before .before .before .before .before .before .before .before .before .before .before .before .before in
+    let r = line-ready (s .pre .0) (c .before .before .before .before .before .before .before .before .before .before .before .before .before .cells-of .ensures) (c .before .before .before .before .before .before .before .before .before .before .before .before .starts-of .ensures) (s .pre .1) (s .pre .2) (c .before .before .before .before .before .solve-line .ensures) in
+    (r .0, r .1, r .2, s .pre .3)
 
 same-length : tie.Need-same-length
 same-length c = search needs
@@ -49,7 +46,6 @@ search-line-spec =
     tie.close
     (tie.spec
     cells-of-requires
-    order-of-requires
     starts-of-requires
     right-requires
     solve-line-requires

@@ -76,7 +76,7 @@ fn put_made(lj: &[f64], l: &mut [f64], starts: &[u16; STARTS], j: usize, z: usiz
 
 // The factor of the first n rows of a band, into lent pivots and multipliers: the rows made stand there, cell by cell.
 pub fn factor_band(
-    band: [[f64; 5]; CELLS],
+    band: &[[f64; 5]; CELLS],
     n: usize,
     z: usize,
     starts: &[u16; STARTS],
@@ -84,7 +84,7 @@ pub fn factor_band(
     l: &mut [f64],
 ) -> Ending
     requires { ⌜ (n ≤ 120) × (z ≤ 4) × Placed z n (now starts) (now l) ⌝ }
-    ensures { λ r. ⌜ (r ≡ factorFrom (rowsOf band) z n 0 (now (d .entry)) (now (l .entry)) .ending) × (now (d .exit) ≡ factorFrom (rowsOf band) z n 0 (now (d .entry)) (now (l .entry)) .pivots) × (now (l .exit) ≡ factorFrom (rowsOf band) z n 0 (now (d .entry)) (now (l .entry)) .multipliers) ⌝ }
+    ensures { λ r. ⌜ (r ≡ factorFrom (rowsOf (now (band .entry))) z n 0 (now (d .entry)) (now (l .entry)) .ending) × (now (d .exit) ≡ factorFrom (rowsOf (now (band .entry))) z n 0 (now (d .entry)) (now (l .entry)) .pivots) × (now (l .exit) ≡ factorFrom (rowsOf (now (band .entry))) z n 0 (now (d .entry)) (now (l .entry)) .multipliers) ⌝ }
 {
     let mut j = 0;
     while j < n {
@@ -120,6 +120,6 @@ pub fn solve_line(
 {
     let n = cells_of(words);
     let a = band(words, n, z);
-    let ending = factor_band(a, n, z, starts, d, l);
+    let ending = factor_band(&a, n, z, starts, d, l);
     solve_whole(ending, d, l, starts, v, n, z)
 }

@@ -1,5 +1,5 @@
-/* The twelve calls (document 01, "Numbers Mr Aldous reads"; document 02, comma lists W-201, terms W-202, fetch W-203, counts of slots W-209): the order
- * of the refusals, and what a call returns and writes. */
+/* The thirteen calls (document 01, "Numbers Mr Aldous reads"; document 02, comma lists W-201, terms W-202, fetch W-203, proposals that honour links W-207,
+ * counts of slots W-209): the order of the refusals, and what a call returns and writes. */
 #include "parts.h"
 #include "twin.h"
 
@@ -83,27 +83,66 @@ uint64_t twin_terms(const uint8_t *job, size_t job_bytes, const uint8_t *proposa
     return told(twin_plain(0, needed), answer);
 }
 
+/* Writes a proposal pack, if there is room for it, and tells what is `done`, with the pack's bytes for its place. */
+static uint64_t hand_out(const struct twin_job *job, const struct twin_table *table, struct twin_answer done, uint8_t *out, size_t out_bytes, uint64_t *answer)
+{
+    uint8_t pack[3 * MOST_CELLS + 5 * MOST_LINKS];
+    size_t bytes = 0;
+    for (int64_t i = 0; i < job->cells; i++)
+        bytes += twin_put_number(pack + bytes, (uint64_t)table->value[i]);
+    for (int64_t l = 0; l < job->links; l++)
+        bytes += twin_put_number(pack + bytes, (uint64_t)table->multiplier[l]);
+    if (out_bytes < bytes)
+        return told(twin_plain(13, bytes), answer);
+    memcpy(out, pack, bytes);
+    done.place = bytes;
+    return told(done, answer);
+}
+
 uint64_t twin_propose(const uint8_t *job, size_t job_bytes, uint8_t *out, size_t out_bytes, uint64_t *answer, size_t answer_words)
 {
     struct twin_job read;
-    int64_t value[MOST_CELLS];
-    uint8_t pack[3 * MOST_CELLS + MOST_LINKS];
+    struct twin_table table;
     if (answer_words != ANSWER_WORDS)
         return wrong_answer_slice();
     struct twin_answer a = twin_read_job(job, job_bytes, &read);
     if (a.number == 0)
-        a = twin_house(&read, value);
+        a = twin_house(&read, table.value);
     if (a.number != 0)
         return told(a, answer);
-    size_t bytes = 0;
-    for (int64_t i = 0; i < read.cells; i++)
-        bytes += twin_put_number(pack + bytes, (uint64_t)value[i]);
-    for (int64_t l = 0; l < read.links; l++)
-        bytes += twin_put_number(pack + bytes, 0);
-    if (out_bytes < bytes)
-        return told(twin_plain(13, bytes), answer);
-    memcpy(out, pack, bytes);
-    return told(twin_plain(0, bytes), answer);
+    memset(table.multiplier, 0, (size_t)read.links * sizeof *table.multiplier);
+    return hand_out(&read, &table, a, out, out_bytes, answer);
+}
+
+/* "21 passes outside 1..200, first." */
+static uint64_t propose_linked(const uint8_t *job, size_t job_bytes, uint64_t passes, double (*kept)[MOST_CELLS],
+                               uint8_t *out, size_t out_bytes, uint64_t *answer, size_t answer_words)
+{
+    struct twin_job read;
+    struct twin_table table;
+    if (answer_words != ANSWER_WORDS)
+        return wrong_answer_slice();
+    if (passes < 1 || passes > MOST_PASSES)
+        return told(twin_plain(21, 0), answer);
+    struct twin_answer a = twin_read_job(job, job_bytes, &read);
+    if (a.number == 0)
+        a = twin_linked(&read, passes, kept, &table);
+    if (a.number != 0)
+        return told(a, answer);
+    return hand_out(&read, &table, a, out, out_bytes, answer);
+}
+
+uint64_t twin_propose_linked(const uint8_t *job, size_t job_bytes, uint64_t passes, uint8_t *out, size_t out_bytes,
+                             uint64_t *answer, size_t answer_words)
+{
+    return propose_linked(job, job_bytes, passes, NULL, out, out_bytes, answer, answer_words);
+}
+
+uint64_t twin_propose_kept(const uint8_t *job, size_t job_bytes, uint64_t passes, uint8_t *out, size_t out_bytes,
+                           uint64_t *answer, size_t answer_words)
+{
+    double solutions[MOST_LINKS][MOST_CELLS];
+    return propose_linked(job, job_bytes, passes, solutions, out, out_bytes, answer, answer_words);
 }
 
 uint64_t twin_keep(uint32_t *shelf, size_t shelf_words, const uint8_t *job, size_t job_bytes,

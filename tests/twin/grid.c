@@ -1,17 +1,8 @@
-/* The house proposal of a grid (document 02, W-205): document 01's steps with z the order down times the columns, over the whole band.
+/* The factor and the solutions of a grid (document 02, W-205): document 01's steps with z the order down times the columns, over the whole band.
  * Compile with -ffp-contract=off, as house.c. */
 #include "parts.h"
 
-enum { MOST_COLUMNS = 12, MOST_BAND = MOST_ORDER * MOST_COLUMNS };
-
-/* below[j][b] is L(j, j-b), for b from 1 to the band. */
-struct factor {
-    double below[MOST_CELLS][MOST_BAND + 1];
-    double pivot[MOST_CELLS];
-    int64_t band;
-};
-
-static int64_t first_of_band(const struct factor *f, int64_t j)
+static int64_t first_of_band(const struct twin_grid_factor *f, int64_t j)
 {
     return j > f->band ? j - f->band : 0;
 }
@@ -31,7 +22,7 @@ static void matrix_row(const struct twin_job *job, int64_t band, int64_t j, doub
 
 /* Row j of the factor, in the place of row j of A, and its pivot; false if the pivot is thin. The product of L(j,m) and d(m) is made once
  * for all the entries that it goes into. */
-static bool factor_row(struct factor *f, int64_t j)
+static bool factor_row(struct twin_grid_factor *f, int64_t j)
 {
     int64_t first = first_of_band(f, j);
     double *row = f->below[j], scaled[MOST_BAND + 1], pivot = row[0];
@@ -49,35 +40,28 @@ static bool factor_row(struct factor *f, int64_t j)
     return pivot > 1.0 / 1024.0;
 }
 
-static void solve(const struct twin_job *job, const struct factor *f, double *v)
+struct twin_answer twin_factor_grid(const struct twin_job *job, struct twin_grid_factor *f)
+{
+    if (job->columns > MOST_COLUMNS)
+        return twin_plain(20, 0);
+    f->band = job->down * job->columns;
+    for (int64_t j = 0; j < job->cells; j++) {
+        matrix_row(job, f->band, j, f->below[j]);
+        if (!factor_row(f, j))
+            return twin_plain(10, (uint64_t)j);
+    }
+    return twin_plain(0, 0);
+}
+
+void twin_solve_grid(const struct twin_job *job, const struct twin_grid_factor *f, double *v)
 {
     int64_t n = job->cells;
-    for (int64_t j = 0; j < n; j++) {
-        v[j] = (double)(job->w[j] * job->u[j]);
+    for (int64_t j = 0; j < n; j++)
         for (int64_t m = first_of_band(f, j); m < j; m++)
             v[j] -= f->below[j][j - m] * v[m];
-    }
     for (int64_t j = 0; j < n; j++)
         v[j] = v[j] / f->pivot[j];
     for (int64_t j = n - 1; j >= 0; j--)
         for (int64_t m = j + 1; m < n && m <= j + f->band; m++)
             v[j] -= f->below[m][m - j] * v[m];
-}
-
-struct twin_answer twin_house_grid(const struct twin_job *job, int64_t *value)
-{
-    struct factor f;
-    double v[MOST_CELLS];
-    if (job->columns > MOST_COLUMNS)
-        return twin_plain(20, 0);
-    f.band = job->down * job->columns;
-    for (int64_t j = 0; j < job->cells; j++) {
-        matrix_row(job, f.band, j, f.below[j]);
-        if (!factor_row(&f, j))
-            return twin_plain(10, (uint64_t)j);
-    }
-    solve(job, &f, v);
-    for (int64_t j = 0; j < job->cells; j++)
-        value[j] = twin_rounded(v[j], job->lo[j], job->hi[j]);
-    return twin_plain(0, 0);
 }

@@ -1,12 +1,7 @@
-/* The house proposal (document 01) of a line: (W + kK'K)v = Wu in f64, each operation rounded once and in the paper's order.
+/* The house proposal (document 01): (W + kK'K)v = Wu in f64, each operation rounded once and in the paper's order. The factor and the solutions of a line
+ * are here, those of a grid in grid.c.
  * Compile with -ffp-contract=off: a fused multiplication and subtraction would round once instead of twice. */
 #include "parts.h"
-
-/* below[j][b] is L(j, j-b), for b from 1 to the order. */
-struct factor {
-    double below[MOST_CELLS][MOST_ORDER + 1];
-    double pivot[MOST_CELLS];
-};
 
 /* Over every difference that uses both cells, i at most j. */
 static inline int64_t product(int64_t order, int64_t length, int64_t j, int64_t i)
@@ -37,7 +32,7 @@ static int64_t first_of_band(const struct twin_job *job, int64_t j)
 }
 
 /* Row j of the factor and its pivot; false if the pivot is thin. */
-static bool factor_row(const struct twin_job *job, struct factor *f, int64_t j)
+static bool factor_row(const struct twin_job *job, struct twin_line_factor *f, int64_t j)
 {
     int64_t first = first_of_band(job, j);
     double *row = f->below[j];
@@ -54,19 +49,45 @@ static bool factor_row(const struct twin_job *job, struct factor *f, int64_t j)
     return pivot > 1.0 / 1024.0;
 }
 
-static void solve(const struct twin_job *job, const struct factor *f, double *v)
+static struct twin_answer factor_line(const struct twin_job *job, struct twin_line_factor *f)
+{
+    for (int64_t j = 0; j < job->cells; j++)
+        if (!factor_row(job, f, j))
+            return twin_plain(10, (uint64_t)j);
+    return twin_plain(0, 0);
+}
+
+static void solve_line(const struct twin_job *job, const struct twin_line_factor *f, double *v)
 {
     int64_t n = job->cells, z = job->down;
-    for (int64_t j = 0; j < n; j++) {
-        v[j] = (double)(job->w[j] * job->u[j]);
+    for (int64_t j = 0; j < n; j++)
         for (int64_t m = first_of_band(job, j); m < j; m++)
             v[j] -= f->below[j][j - m] * v[m];
-    }
     for (int64_t j = 0; j < n; j++)
         v[j] = v[j] / f->pivot[j];
     for (int64_t j = n - 1; j >= 0; j--)
         for (int64_t m = j + 1; m < n && m <= j + z; m++)
             v[j] -= f->below[m][m - j] * v[m];
+}
+
+struct twin_answer twin_factor(const struct twin_job *job, union twin_factor *f)
+{
+    return job->order_field == GRID ? twin_factor_grid(job, &f->grid) : factor_line(job, &f->line);
+}
+
+void twin_solve(const struct twin_job *job, const union twin_factor *f, double *v)
+{
+    if (job->order_field == GRID)
+        twin_solve_grid(job, &f->grid, v);
+    else
+        solve_line(job, &f->line, v);
+}
+
+void twin_house_values(const struct twin_job *job, const union twin_factor *f, double *v)
+{
+    for (int64_t j = 0; j < job->cells; j++)
+        v[j] = (double)(job->w[j] * job->u[j]);
+    twin_solve(job, f, v);
 }
 
 /* The whole number nearest to v within the box, halves up. v less its whole part is exact. */
@@ -80,20 +101,15 @@ int64_t twin_rounded(double v, int64_t lo, int64_t hi)
     return v - (double)down >= 0.5 ? down + 1 : down;
 }
 
-static struct twin_answer house_line(const struct twin_job *job, int64_t *value)
-{
-    struct factor f;
-    double v[MOST_CELLS];
-    for (int64_t j = 0; j < job->cells; j++)
-        if (!factor_row(job, &f, j))
-            return twin_plain(10, (uint64_t)j);
-    solve(job, &f, v);
-    for (int64_t j = 0; j < job->cells; j++)
-        value[j] = twin_rounded(v[j], job->lo[j], job->hi[j]);
-    return twin_plain(0, 0);
-}
-
 struct twin_answer twin_house(const struct twin_job *job, int64_t *value)
 {
-    return job->order_field == GRID ? twin_house_grid(job, value) : house_line(job, value);
+    union twin_factor f;
+    double v[MOST_CELLS];
+    struct twin_answer a = twin_factor(job, &f);
+    if (a.number != 0)
+        return a;
+    twin_house_values(job, &f, v);
+    for (int64_t j = 0; j < job->cells; j++)
+        value[j] = twin_rounded(v[j], job->lo[j], job->hi[j]);
+    return a;
 }

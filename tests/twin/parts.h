@@ -8,6 +8,7 @@
 
 enum { MOST_CELLS = 120, MOST_LINKS = 160, MOST_TERMS = 4, MOST_ORDER = 4 };
 enum { MOST_VALUE = 1000000, MOST_MULTIPLIER = 1000000000 };
+enum { MOST_COLUMNS = 12, MOST_BAND = MOST_ORDER * MOST_COLUMNS, MOST_PASSES = 200 };
 enum { ANSWER_WORDS = 4 };
 
 /* The order field that announces a grid (document 02, W-205). */
@@ -89,12 +90,51 @@ struct twin_answer twin_meets(const struct twin_job *job, const struct twin_tabl
 struct twin_answer twin_judge(const struct twin_job *job, const struct twin_table *table);
 void twin_put_terms(const struct twin_job *job, const struct twin_table *table, int64_t *out);
 
-/* The house proposal: done with the values, or refusal 20 or 10. twin_house_grid is its part for grids, which need a wider band; both use
- * the entries of K'K, for one column or row of so many cells, and the rounding. */
-struct twin_answer twin_house(const struct twin_job *job, int64_t *value);
-struct twin_answer twin_house_grid(const struct twin_job *job, int64_t *value);
+/* The factor of (W + kK'K), or of a grid's matrix, whose band is wider: below[j][b] is L(j, j-b), for b from 1 to the band. */
+struct twin_line_factor {
+    double below[MOST_CELLS][MOST_ORDER + 1];
+    double pivot[MOST_CELLS];
+};
+
+struct twin_grid_factor {
+    double below[MOST_CELLS][MOST_BAND + 1];
+    double pivot[MOST_CELLS];
+    int64_t band;
+};
+
+union twin_factor {
+    struct twin_line_factor line;
+    struct twin_grid_factor grid;
+};
+
+/* twin_factor answers done with the factor, or refusal 20 or 10; twin_solve takes a right side in v and leaves its solution there. Those of grids are in
+ * grid.c, and use the entries of K'K for one column or row of so many cells. */
+struct twin_answer twin_factor(const struct twin_job *job, union twin_factor *f);
+void twin_solve(const struct twin_job *job, const union twin_factor *f, double *v);
+struct twin_answer twin_factor_grid(const struct twin_job *job, struct twin_grid_factor *f);
+void twin_solve_grid(const struct twin_job *job, const struct twin_grid_factor *f, double *v);
 int64_t twin_product(int64_t order, int64_t length, int64_t j, int64_t i);
+
+/* The house proposal: done with the values, or refusal 20 or 10. Both proposals begin with the values before rounding, and use the rounding. */
+struct twin_answer twin_house(const struct twin_job *job, int64_t *value);
+void twin_house_values(const struct twin_job *job, const union twin_factor *f, double *v);
 int64_t twin_rounded(double v, int64_t lo, int64_t hi);
+
+/* The proposal that honours links (document 02, W-207), in its parts: the values and multipliers before rounding, as the passes made so far have left them.
+ * `kept` is where the solutions of all links are, or a null pointer if each is worked out anew whenever it is asked for. */
+struct twin_passes {
+    union twin_factor factor;
+    double value[MOST_CELLS], multiplier[MOST_LINKS];
+    double (*kept)[MOST_CELLS];
+};
+
+/* Beginning answers done, or refusal 20 or 10. A pass improves each link's multiplier in turn. The table is the rounded one. */
+struct twin_answer twin_begin_passes(const struct twin_job *job, double (*kept)[MOST_CELLS], struct twin_passes *p);
+void twin_make_pass(const struct twin_job *job, struct twin_passes *p);
+void twin_rounded_table(const struct twin_job *job, const struct twin_passes *p, struct twin_table *table);
+
+/* All of it: done with the table and the count of passes in the place of the loss, or refusal 20, 10 or 14. */
+struct twin_answer twin_linked(const struct twin_job *job, uint64_t passes, double (*kept)[MOST_CELLS], struct twin_table *table);
 
 /* The words of a slot, which is what document 01 calls a place of the shelf: "01's six, the link count, 120 values, 160 multipliers"
  * (document 02, W-203). Loss and gap are a low and a high word each. */

@@ -1,5 +1,5 @@
 /* The twin against document 01 itself: its tables worked by hand, its forms of numbers, and the checking program's lines. Then grids, fetches,
- * counts of slots, terms of the gap, and comma lists. */
+ * counts of slots, terms of the gap, comma lists, and proposals that honour links. */
 #include "tables.h"
 #include "twin.h"
 
@@ -128,6 +128,7 @@ int main(void)
     counts_tables();
     largest_tables();
     comma_tables();
+    ordering_tables();
     printf("%d passed, %d failed\n", passed, failed);
     return failed == 0 ? 0 : 1;
 }

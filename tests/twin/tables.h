@@ -1,5 +1,5 @@
-/* Tests of the twin by itself: one of them, counted, those of grids, those of a fetch that checks, those of counts of slots, those of terms, and
- * those of comma lists. */
+/* Tests of the twin by itself: one of them, counted, those of grids, those of a fetch that checks, those of counts of slots, those of terms, those of
+ * comma lists, and those of proposals that honour links. */
 #ifndef TWIN_TABLES_H
 #define TWIN_TABLES_H
 
@@ -10,5 +10,6 @@ void fetched_tables(void);
 void counts_tables(void);
 void largest_tables(void);
 void comma_tables(void);
+void ordering_tables(void);
 
 #endif

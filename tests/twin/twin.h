@@ -1,4 +1,4 @@
-/* The twin: the bench's twelve calls once more in plain C, written from the documents alone, to compare the bench with.
+/* The twin: the bench's thirteen calls once more in plain C, written from the documents alone, to compare the bench with.
  * Each call takes, answers and writes what include/bench.h says of the bench's call of the same name. */
 #ifndef TWIN_H
 #define TWIN_H
@@ -12,6 +12,8 @@ uint64_t twin_terms(const uint8_t *job, size_t job_bytes, const uint8_t *proposa
                     int64_t *out, size_t out_words, uint64_t *answer, size_t answer_words);
 uint64_t twin_propose(const uint8_t *job, size_t job_bytes, uint8_t *out, size_t out_bytes,
                       uint64_t *answer, size_t answer_words);
+uint64_t twin_propose_linked(const uint8_t *job, size_t job_bytes, uint64_t passes, uint8_t *out, size_t out_bytes,
+                             uint64_t *answer, size_t answer_words);
 uint64_t twin_keep(uint32_t *shelf, size_t shelf_words, const uint8_t *job, size_t job_bytes,
                    const uint8_t *proposal, size_t proposal_bytes, uint64_t *answer, size_t answer_words);
 uint64_t twin_fetch(const uint32_t *shelf, size_t shelf_words, const uint8_t *job, size_t job_bytes,
@@ -30,6 +32,11 @@ uint64_t twin_export(const uint32_t *rates, size_t rate_count, uint64_t first_ag
                      uint8_t *out, size_t out_bytes, uint64_t *answer, size_t answer_words);
 uint64_t twin_rates(const uint8_t *text, size_t text_bytes, uint32_t *out, size_t out_words,
                     uint64_t *answer, size_t answer_words);
+
+/* twin_propose_linked works out each link's solution anew at each pass; this call works out all of them once and keeps them, in 154 KB of stack. Both answer
+ * and write the same. */
+uint64_t twin_propose_kept(const uint8_t *job, size_t job_bytes, uint64_t passes, uint8_t *out, size_t out_bytes,
+                           uint64_t *answer, size_t answer_words);
 
 /* The line that the checking program prints for an input. `out` has room for TWIN_LINE_BYTES; the answer is the line's length. */
 #define TWIN_LINE_BYTES 2048

@@ -7,10 +7,13 @@
 #include <stdio.h>
 #include <string.h>
 
-const char *const call_names[FUNCTIONS] = {"check", "terms", "propose", "keep", "fetch", "forget", "clear", "read", "write",
+const char *const call_names[FUNCTIONS] = {"check", "terms", "propose", "linked", "keep", "fetch", "forget", "clear", "read", "write",
                                               "import", "export", "rates"};
 
 static const uint64_t NOT_RETURNED = UINT64_MAX;
+
+/* The longest output and answer slice that a proposal is lent. */
+enum { MOST_OUTPUT = 4096, MOST_ANSWER = 8 };
 
 static uint64_t on_bench(const struct call *c, void *const *p)
 {
@@ -20,6 +23,7 @@ static uint64_t on_bench(const struct call *c, void *const *p)
     case CHECK: return bench_check(p[0], s[0].count, p[1], s[1].count, p[2], s[2].count);
     case TERMS: return bench_terms(p[0], s[0].count, p[1], s[1].count, p[2], s[2].count, p[3], s[3].count);
     case PROPOSE: return bench_propose(p[0], s[0].count, p[1], s[1].count, p[2], s[2].count);
+    case LINKED: return bench_propose_linked(p[0], s[0].count, c->passes, p[1], s[1].count, p[2], s[2].count);
     case KEEP: return bench_keep(p[0], s[0].count, p[1], s[1].count, p[2], s[2].count, p[3], s[3].count);
     case FETCH: return bench_fetch(p[0], s[0].count, p[1], s[1].count, p[2], s[2].count, p[3], s[3].count);
     case FORGET: return bench_forget(p[0], s[0].count, c->society, c->job, p[1], s[1].count);
@@ -42,6 +46,7 @@ static uint64_t on_twin(const struct call *c, void *const *p)
     case CHECK: return twin_check(p[0], s[0].count, p[1], s[1].count, p[2], s[2].count);
     case TERMS: return twin_terms(p[0], s[0].count, p[1], s[1].count, p[2], s[2].count, p[3], s[3].count);
     case PROPOSE: return twin_propose(p[0], s[0].count, p[1], s[1].count, p[2], s[2].count);
+    case LINKED: return twin_propose_linked(p[0], s[0].count, c->passes, p[1], s[1].count, p[2], s[2].count);
     case KEEP: return twin_keep(p[0], s[0].count, p[1], s[1].count, p[2], s[2].count, p[3], s[3].count);
     case FETCH: return twin_fetch(p[0], s[0].count, p[1], s[1].count, p[2], s[2].count, p[3], s[3].count);
     case FORGET: return twin_forget(p[0], s[0].count, c->society, c->job, p[1], s[1].count);
@@ -85,6 +90,20 @@ static bool answer_agrees(const struct call *c, int side, uint64_t said)
     return s->count != BENCH_ANSWER_WORDS || (answer[0] == BENCH_NUMBER(said) && answer[1] == BENCH_PLACE(said));
 }
 
+/* Whether the way that keeps the links' solutions says and writes what the twin's other way has, which `said` and left its slices so. */
+static bool kept_agrees(const struct call *c, uint64_t said)
+{
+    static uint8_t out[MOST_OUTPUT];
+    uint64_t answer[MOST_ANSWER];
+    const struct slice *job = &c->slice[0], *room = &c->slice[1], *words = &c->slice[2];
+    if (room->count > sizeof out || words->count > MOST_ANSWER)
+        return false;
+    memcpy(out, room->content, room->count);
+    memcpy(answer, words->content, words->count * sizeof *answer);
+    return twin_propose_kept(job->content, job->count, c->passes, out, room->count, answer, words->count) == said
+        && memcmp(out, lent_at(1, 1, room), room->count) == 0 && memcmp(answer, lent_at(1, 2, words), words->count * sizeof *answer) == 0;
+}
+
 const char *call_both(const struct call *c, uint64_t said[SIDES])
 {
     const char *wrong = NULL;
@@ -101,6 +120,8 @@ const char *call_both(const struct call *c, uint64_t said[SIDES])
     for (int side = 0; side < SIDES && !wrong; side++)
         if (!answer_agrees(c, side, said[side]))
             wrong = "the answer slice is not what was returned";
+    if (c->function == LINKED && !wrong && !kept_agrees(c, said[1]))
+        wrong = "the twin's two ways differ";
     return said[0] != said[1] ? "the returned numbers differ" : wrong;
 }
 
@@ -159,6 +180,8 @@ void call_report(const struct call *c, const uint64_t said[SIDES])
     printf("  %s, society %" PRIu32 ", job %" PRIu32 "\n", call_names[c->function], c->society, c->job);
     if (c->function == IMPORT)
         print_numbers(c->number);
+    if (c->function == LINKED)
+        printf("  passes %" PRIu64 "\n", c->passes);
     if (c->function == EXPORT)
         printf("  first age %" PRIu64 "\n", c->first_age);
     for (int side = 0; side < SIDES; side++)

@@ -1,11 +1,13 @@
 /* The bench against the twin: random calls with the same memory, compared in what they return and in every lent byte.
  * Arguments: the seed, the count of calls, and `end` or `start` if slices shall lie flush against a page that nobody may touch.
  * It ends with 1 at the first mismatch, or if a call never ended in some number that it can give, of 13 in one of the lengths, of 22 in one of the
- * places, if no span of some count of slots was ever full, or if no gap above the tolerance had its largest term in some kind of place. */
+ * places, if no span of some count of slots was ever full, if no gap above the tolerance had its largest term in some kind of place, or if proposals that
+ * honour links never met some count of passes. */
 #define _POSIX_C_SOURCE 200809L
 #include "calls.h"
 #include "../../include/bench.h"
 #include "nines.h"
+#include "passes.h"
 #include "reached.h"
 #include "scenes.h"
 
@@ -43,6 +45,7 @@ static uint64_t possible(int shape, int function)
     case CHECK: return check | answer;
     case TERMS: return meets | answer | room;
     case KEEP: return check | answer | shelf;
+    case LINKED: return pack | bit(10) | bit(14) | bit(21) | answer | room | (grid ? bit(20) : 0);
     case PROPOSE: return pack | bit(10) | answer | room | (grid ? bit(20) : 0);
     case FETCH: return check | bit(12) | answer | shelf | room;
     case FORGET: return grid ? 0 : bit(0) | bit(11) | bit(12) | answer | shelf;
@@ -145,13 +148,15 @@ static int run(uint64_t count)
         tally[call.grid][call.function][outcome_of(&call, said[0])]++;
         reached_note(&call, said[0], after);
         nines_note(&call, said[0]);
+        passes_note(&call, said[0], lent_at(0, 1, &call.slice[1]), lent_at(0, call.slices - 1, &call.slice[call.slices - 1]));
         scene_shelf(&call, said[0], after);
     }
     print_tally(0);
     print_tally(1);
     reached_print();
     nines_print();
-    return judge_tally(0) | judge_tally(1) | reached_judge() | nines_judge();
+    passes_print();
+    return judge_tally(0) | judge_tally(1) | reached_judge() | nines_judge() | passes_judge();
 }
 
 int main(int argc, char **argv)

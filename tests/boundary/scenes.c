@@ -3,14 +3,15 @@
 #include "../twin/twin.h"
 #include "corrections.h"
 #include "lists.h"
+#include "orderings.h"
 #include "rows.h"
 #include "shapes.h"
 #include "shelves.h"
 
 #include <string.h>
 
-/* The draft that is in use: `drawn`, for a fetch `asked`, or a broken copy of it. */
-static struct draft drawn, asked, broken;
+/* The draft that is in use: `drawn`, for a fetch `asked`, for a proposal that honours links `ordered`, or a broken copy of it. */
+static struct draft drawn, asked, ordered, broken;
 static const struct draft *draft = &drawn;
 static struct numbers list;
 static struct bytes job_pack, proposal_pack, text;
@@ -25,6 +26,10 @@ enum { MOST_LIST_ROOM = 4096 };
 /* The counts of a clearing, and the shelf's own row while one that is not allowed stands in its place for a call. */
 static uint32_t counts[SOCIETIES], own_row[ROW_WORDS];
 static bool row_is_spoilt;
+
+/* Proposals that honour links so far. A line and a grid as large as can be take long, so only these two have one. */
+static int64_t linked_calls;
+enum { FULL_LINE = 150, FULL_GRID = 300 };
 
 /* Calls that are left of a stretch in which one society keeps many tables: its slots get full, however many they are. */
 static int64_t filling, filled_society;
@@ -214,7 +219,41 @@ static void lend_terms(struct random *r, struct call *c)
     lend_output(r, c, written(said), most, sizeof *room);
 }
 
-/* Check, terms, propose, read and write: the calls without a shelf. */
+/* The draft for a proposal that honours links, with the first pass that is accepted or 0. */
+static int64_t draw_ordered(struct random *r)
+{
+    linked_calls++;
+    if (linked_calls == FULL_LINE || linked_calls == FULL_GRID) {
+        ordering_full(r, linked_calls == FULL_GRID, &ordered);
+        return 0;
+    }
+    if (random_chance(r, 75))
+        return ordering_make(r, &ordered);
+    ordered = drawn;
+    ordering_lighten(&ordered.job);
+    return 0;
+}
+
+static void lend_linked(struct random *r, struct call *c)
+{
+    uint8_t room[2000];
+    uint64_t answer[ANSWER_WORDS];
+    int64_t first = draw_ordered(r);
+    bool full = ordered.job.links == MOST_LINKS;
+    if (full) {
+        draft = &ordered;
+        numbers_of_job(&ordered.job, &list);
+        numbers_pack(&list, &job_pack);
+    } else {
+        draw_job(r, &ordered);
+    }
+    lend_job(c);
+    c->passes = full ? 2 : ordering_passes(r, &ordered.job, first);
+    uint64_t said = twin_propose_linked(job_pack.at, job_pack.count, c->passes, room, sizeof room, answer, ANSWER_WORDS);
+    lend_output(r, c, written(said), 1160, 1);
+}
+
+/* Check, terms, both proposals, read and write: the calls without a shelf. */
 static void pack_call(struct random *r, struct call *c)
 {
     static uint64_t room[MOST_NUMBERS], answer[ANSWER_WORDS];
@@ -230,6 +269,8 @@ static void pack_call(struct random *r, struct call *c)
     } else if (c->function == TERMS) {
         lend_packs(r, c);
         lend_terms(r, c);
+    } else if (c->function == LINKED) {
+        lend_linked(r, c);
     } else if (c->function == PROPOSE) {
         draw_job(r, &drawn);
         lend_job(c);
@@ -319,10 +360,10 @@ static void next_shelf(struct random *r)
 static enum function next_function(struct random *r)
 {
     static const struct { enum function function; int share; } shares[] = {
-        {CHECK, 150}, {TERMS, 100}, {PROPOSE, 135}, {KEEP, 215}, {FETCH, 180}, {FORGET, 42}, {CLEAR, 22}, {READ, 74}, {WRITE, 98},
+        {CHECK, 150}, {TERMS, 100}, {PROPOSE, 135}, {LINKED, 100}, {KEEP, 215}, {FETCH, 180}, {FORGET, 42}, {CLEAR, 22}, {READ, 74}, {WRITE, 98},
         {IMPORT, 80}, {EXPORT, 25}, {RATES, 40},
     };
-    int64_t share = random_below(r, 1161);
+    int64_t share = random_below(r, 1261);
     size_t f = 0;
     for (; share >= shares[f].share; f++)
         share -= shares[f].share;

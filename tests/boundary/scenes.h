@@ -1,4 +1,4 @@
-/* Scenes: random calls of all twelve functions, on drafts that last a few calls and on a shelf that lasts many. */
+/* Scenes: random calls of all thirteen functions, on drafts that last a few calls and on a shelf that lasts many. */
 #ifndef SCENES_H
 #define SCENES_H
 

@@ -11,14 +11,14 @@ need gcc gcc
 CALLS=70000 DRAFTS=4000
 out=target/tests/slips
 flags="-std=c99 -O1 -ffp-contract=off"
-parts="packs measure terms house grid shelf lists calls"
+parts="packs measure terms house grid linked shelf lists calls"
 passed=0 failed=0
 good() { passed=$((passed + 1)); }
 bad() { failed=$((failed + 1)); echo "FAILED  $1"; }
 
 # The parts of both tests, and of each alone; their objects go to folders of these names.
 both="drafts ties shapes extremes grids numbers"
-differential="differential reached nines scenes calls corrections shelves rows lists lent"
+differential="differential reached nines passes scenes calls orderings corrections shelves rows lists lent"
 reversed="reversed met turned"
 
 rm -rf "$out"

@@ -157,7 +157,6 @@ static void refusals(void)
     memcpy(spare, THREE, sizeof THREE);
     spare[sizeof THREE] = 0;
     expect(refuses(spare, sizeof spare, 1, ROOM, 1, sizeof THREE), "a spare byte");
-    expect(refuses(pack, thin_grid(false, pack, sizeof pack), 1, 0, 20, 0), "60 columns");
     expect(refuses(pack, thin(pack, sizeof pack), 7, 0, 10, 119), "a thin job is 10 and not 14");
     expect(twin_propose_linked(THREE, sizeof THREE, 1, out, ROOM, answer, 5) == 32 * 4 + 13, "an answer slice of five words");
 }

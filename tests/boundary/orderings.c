@@ -1,11 +1,12 @@
 /* See orderings.h. */
 #include "orderings.h"
 #include "extremes.h"
+#include "halves.h"
 #include "shapes.h"
 
 #include <string.h>
 
-static const int64_t MOST_TOLERANCE = 1000000000000000, MOST_BOUND = 1000000000;
+static const int64_t MOST_TOLERANCE = 1000000000000000;
 
 /* The work of a pass above which links are taken away, and above which only few passes are made. */
 enum { MOST_WORK = 4000, LITTLE_WORK = 300, FEW_LINKS = 12 };
@@ -218,11 +219,30 @@ static void draw_ordering(struct random *r, struct twin_job *job)
     ordering_lighten(job);
 }
 
+/* Few cells with small constants, so that what the halves are made of is small too. */
+static bool draw_half(struct random *r, struct draft *d)
+{
+    struct twin_job *job = &d->job;
+    memset(job, 0, sizeof *job);
+    job->society = draft_society(r);
+    if (random_chance(r, 34)) {
+        shape_grid(job, 2, random_between(r, 2, 3), 1, 1);
+        job->second = random_between(r, 1, 3);
+    } else {
+        int64_t cells = random_between(r, 2, 5);
+        shape_line(job, cells, random_between(r, 1, smaller(2, cells - 1)));
+    }
+    job->constant = random_between(r, 1, 3);
+    return halves_make(r, d);
+}
+
 /* A job that is accepted at its first pass or at none has mostly to give way to another. */
 int64_t ordering_make(struct random *r, struct draft *d)
 {
     int64_t count = 0, tries = random_chance(r, 20) ? 1 : 4;
     memset(&d->table, 0, sizeof d->table);
+    if (random_chance(r, 30) && draw_half(r, d))
+        return 1;
     while (count < 2 && tries-- > 0) {
         draw_ordering(r, &d->job);
         bool little = work_of_link(&d->job) * d->job.links <= LITTLE_WORK;
@@ -232,17 +252,54 @@ int64_t ordering_make(struct random *r, struct draft *d)
     return settle(r, &d->job, count);
 }
 
-/* The bounds lie a little below what the house's table has, so that all links pull. */
+/* Four links of a full job pull, the first and the last among them; the others have room. */
+static const int64_t PULLING[] = {0, 1, 130, MOST_LINKS - 1};
+enum { PULLS = 4, APART = 30 };
+
+/* Each has cells of its own. */
+static void press_full(struct random *r, struct twin_job *job)
+{
+    struct twin_table house;
+    twin_house(job, house.value);
+    for (int64_t l = 0; l < job->links; l++)
+        job->link[l].bound = draft_sum(&job->link[l], &house) + MOST_VALUE;
+    for (int64_t i = 0; i < PULLS; i++) {
+        struct twin_link *link = &job->link[PULLING[i]];
+        for (int64_t t = 0; t < MOST_TERMS; t++)
+            link->cell[t] = APART * i + 3 * t;
+        link->bound = draft_sum(link, &house) - random_between(r, 1, 1000);
+    }
+}
+
+/* The cells of the links that pull are held so far down, or up, that rounding does not break them. The passes do not see boxes. */
+static void hold_full(struct twin_job *job)
+{
+    struct twin_passes p;
+    if (twin_begin_passes(job, NULL, &p).number == 0)
+        twin_make_pass(job, &p);
+    for (int64_t i = 0; i < PULLS; i++)
+        for (int64_t t = 0; t < MOST_TERMS; t++) {
+            int64_t cell = APART * i + 3 * t, value = twin_rounded(p.value[cell], 0, MOST_VALUE);
+            if (job->link[PULLING[i]].coefficient[t] > 0)
+                job->hi[cell] = value - APART;
+            else
+                job->lo[cell] = value + APART;
+        }
+}
+
 void ordering_full(struct random *r, bool grid, struct draft *d)
 {
     if (grid)
         draft_full_grid(r, MOST_COLUMNS, MOST_ORDER, MOST_ORDER, d);
     else
         draft_full(r, MOST_ORDER, d);
+    for (int64_t i = 0; i < d->job.cells; i++) {
+        d->job.lo[i] = 0;
+        d->job.hi[i] = MOST_VALUE;
+    }
     d->job.tolerance = MOST_TOLERANCE;
-    for (int64_t l = 0; l < d->job.links; l++)
-        if (d->job.link[l].bound > -MOST_BOUND + 1000)
-            d->job.link[l].bound -= random_below(r, 1000);
+    press_full(r, &d->job);
+    hold_full(&d->job);
 }
 
 uint64_t ordering_passes(struct random *r, const struct twin_job *job, int64_t first)

@@ -8,7 +8,7 @@
 /* Makes such a job in the draft and answers the first pass that is accepted, or 0 if that is not known. The draft's table is the planted one of no link. */
 int64_t ordering_make(struct random *r, struct draft *draft);
 
-/* One that is as large as can be: a line of the highest order, or a grid of 10 by 12. No pass is known to be accepted. */
+/* One that is as large as can be: a line of the highest order, or a grid of 10 by 12. One of its first passes is accepted. */
 void ordering_full(struct random *r, bool grid, struct draft *draft);
 
 /* Takes links away from any draft until its passes are short. */

@@ -42,12 +42,12 @@ static void note_read(const struct call *c, const struct twin_job *job, uint64_t
         kinds[ALL_GIVEN] += answer[2] == c->passes;
         kinds[LIMITED] += has_limited(job, out, BENCH_PLACE(said));
         kinds[NO_LINKS] += job->links == 0;
+        kinds[FULL] += job->links == MOST_LINKS && job->cells == MOST_CELLS && (!c->grid || job->columns == MOST_COLUMNS);
     }
     if (none) {
         kinds[NO_LINKS_14] += job->links == 0;
         kinds[c->passes == 1 ? ONE_14 : c->passes == MOST_PASSES ? MOST_14 : SOME_14]++;
     }
-    kinds[FULL] += (none || done) && job->links == MOST_LINKS && job->cells == MOST_CELLS && (!c->grid || job->columns == MOST_COLUMNS);
 }
 
 void passes_note(const struct call *c, uint64_t said, const void *out, const uint64_t *answer)

@@ -27,9 +27,9 @@ enum { MOST_LIST_ROOM = 4096 };
 static uint32_t counts[SOCIETIES], own_row[ROW_WORDS];
 static bool row_is_spoilt;
 
-/* Proposals that honour links so far. A line and a grid as large as can be take long, so only these two have one. */
+/* Proposals that honour links so far. Lines and grids as large as can be take long, so only few of the calls have one. */
 static int64_t linked_calls;
-enum { FULL_LINE = 150, FULL_GRID = 300 };
+enum { FULL_EACH = 100, FULL_LAST = 600 };
 
 /* Calls that are left of a stretch in which one society keeps many tables: its slots get full, however many they are. */
 static int64_t filling, filled_society;
@@ -223,8 +223,8 @@ static void lend_terms(struct random *r, struct call *c)
 static int64_t draw_ordered(struct random *r)
 {
     linked_calls++;
-    if (linked_calls == FULL_LINE || linked_calls == FULL_GRID) {
-        ordering_full(r, linked_calls == FULL_GRID, &ordered);
+    if (linked_calls % FULL_EACH == 0 && linked_calls <= FULL_LAST) {
+        ordering_full(r, linked_calls / FULL_EACH % 2 == 0, &ordered);
         return 0;
     }
     if (random_chance(r, 75))

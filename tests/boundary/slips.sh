@@ -18,7 +18,7 @@ bad() { failed=$((failed + 1)); echo "FAILED  $1"; }
 
 # The parts of both tests, and of each alone; their objects go to folders of these names.
 both="drafts ties shapes extremes grids numbers"
-differential="differential reached nines passes scenes calls orderings corrections shelves rows lists lent"
+differential="differential reached nines passes scenes calls orderings halves corrections shelves rows lists lent"
 reversed="reversed met turned"
 
 rm -rf "$out"
@@ -76,4 +76,4 @@ done <tests/boundary/slips
 
 echo "$passed passed, $failed failed"
 # The twin at both tests, and every slip of the list.
-[ "$failed" = 0 ] && [ "$passed" -gt 544 ]
+[ "$failed" = 0 ] && [ "$passed" -gt 631 ]

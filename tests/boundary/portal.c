@@ -5,8 +5,8 @@
 #include <stdio.h>
 #include <string.h>
 
-/* Comma lists came with version 6. */
-#if BENCH_VERSION < 6
+/* Proposals that honour links came with version 7. */
+#if BENCH_VERSION < 7
 #error "include/bench.h is older than this caller"
 #endif
 
@@ -30,6 +30,20 @@ static const int64_t LINKED_WORDS[] = {3, 7, 3, 0, 1, 100, 0, 1, 0, 100, 5, 1, 0
 static const uint8_t SELECT[] = {3, 8, 4, 5, 2, 2, 1, 1, 2, 1, 0, 14, 1, 0, 100, 2, 1, 0, 100, 7, 1, 0, 100, 9, 1, 0, 100, 0};
 static const uint8_t SELECT_PROPOSAL[] = {9, 7, 8, 8};
 
+/* Document 01's u 0 5 0 with its link -v0 + v1 <= 0 and tolerance 0: the house's 10/7 15/7 10/7 less -4/7 1/7 3/7, multiplier 2. */
+static const uint8_t ORDERED[] = {3, 7, 3, 2, 1, 0, 0, 1, 0, 100, 5, 1, 0, 100, 0, 1, 0, 100, 1, 2, 0, 1, 1, 2, 0};
+static const uint8_t ORDERED_PROPOSAL[] = {2, 2, 1, 2};
+
+/* Two cells of order 1, crude rates 30 30, weights and constant 1, and the links v0 <= 21, v1 <= 12. After pass p the values are 21 - 27/4^p and 12, the
+ * multipliers 27/4^(p-1) and 54 - 54/4^p: pass 2 gives 19 12 with 7 51, F 494 and G 1 + 1 + 2*7; pass 3 gives 21 12 with 2 53, F 486 and G 1 + 1; pass 4
+ * gives 21 12 with 0 54 and G 0. Pass 1 has a gap above 27*7. */
+static const uint8_t PULLED[] = {3, 7, 2, 1, 1, 0, 30, 1, 0, 100, 30, 1, 0, 100, 2, 1, 0, 2, 42, 1, 1, 2, 24};
+
+/* SELECT with the link v0 - v3 <= -7. Its solution is 4/15 1/15 -1/15 -4/15, its c 8/15, and v0 - v3 is 1: the multiplier is 2*8*15/8, and 15 times the
+ * solution taken from 9 7 and 8 8 leaves 5 6 and 9 12. F = 81 + 16 + 4 + 9 + (16 + 36) + 2*(1 + 9) = 182, and every residual is 0. */
+static const uint8_t SELECT_LINKED[] = {3, 8, 4, 5, 2, 2, 1, 1, 2, 1, 0, 14, 1, 0, 100, 2, 1, 0, 100, 7, 1, 0, 100, 9, 1, 0, 100, 1, 2, 0, 2, 3, 1, 13};
+static const uint8_t SELECT_LINKED_PROPOSAL[] = {5, 6, 9, 12, 30};
+
 static void expect(int holds, const char *what)
 {
     passed += holds != 0;
@@ -38,15 +52,21 @@ static void expect(int holds, const char *what)
         printf("FAILED  %s\n", what);
 }
 
-/* What was returned and what stands in the answer slice are the same number and place, and F and G are these. */
-static void expect_answer(uint64_t said, uint64_t number, uint64_t place, uint64_t loss, uint64_t gap, const char *what)
+/* Whether what was returned and what stands in the answer slice are this number and place, and F and G are these. */
+static int answers(uint64_t said, uint64_t number, uint64_t place, uint64_t loss, uint64_t gap)
 {
     int holds = said == 32 * place + number && BENCH_NUMBER(said) == number && BENCH_PLACE(said) == place && answer[0] == number
              && answer[1] == place && answer[2] == loss && answer[3] == gap;
+    memset(answer, 0xEE, sizeof answer);
+    return holds;
+}
+
+static void expect_answer(uint64_t said, uint64_t number, uint64_t place, uint64_t loss, uint64_t gap, const char *what)
+{
+    int holds = answers(said, number, place, loss, gap);
     expect(holds, what);
     if (!holds)
         printf("        returned number %d, place %d\n", (int)BENCH_NUMBER(said), (int)BENCH_PLACE(said));
-    memset(answer, 0xEE, sizeof answer);
 }
 
 static uint64_t check(const uint8_t *job, size_t job_bytes, const uint8_t *proposal, size_t proposal_bytes)
@@ -57,6 +77,11 @@ static uint64_t check(const uint8_t *job, size_t job_bytes, const uint8_t *propo
 static uint64_t terms(const uint8_t *job, size_t job_bytes, const uint8_t *proposal, size_t proposal_bytes, int64_t *out, size_t words)
 {
     return bench_terms(job, job_bytes, proposal, proposal_bytes, out, words, answer, BENCH_ANSWER_WORDS);
+}
+
+static uint64_t linked(const uint8_t *job, size_t job_bytes, uint64_t passes, uint8_t *out, size_t bytes)
+{
+    return bench_propose_linked(job, job_bytes, passes, out, bytes, answer, BENCH_ANSWER_WORDS);
 }
 
 static uint64_t keep(const uint8_t *job, size_t job_bytes, const uint8_t *proposal, size_t proposal_bytes)
@@ -167,6 +192,119 @@ static void proposals(void)
     expect_answer(bench_propose(JOB, sizeof JOB, out, sizeof out, answer, BENCH_ANSWER_WORDS), BENCH_DONE, 3, 0, 0, "propose");
     expect(out[0] == 2 && out[1] == 3 && out[2] == 2 && out[3] == 0xEE, "the house proposal is 2 3 2, and nothing is written after it");
     expect_answer(check(JOB, sizeof JOB, out, 3), BENCH_DONE, 0, 28, 0, "the house proposal is accepted");
+}
+
+/* The room that proposals which honour links are lent, and what it holds before. */
+enum { LINKED_ROOM = 16, SPARE = 0xEE };
+
+/* Whether the room has these bytes and is otherwise as it was; it is then made so again. */
+static int wrote(uint8_t *out, const uint8_t *pack, size_t bytes)
+{
+    int same = bytes == 0 || memcmp(out, pack, bytes) == 0;
+    for (size_t i = bytes; i < LINKED_ROOM; i++)
+        same = same && out[i] == SPARE;
+    memset(out, SPARE, LINKED_ROOM);
+    return same;
+}
+
+/* A job by name, with the proposal that is the first accepted: after so many passes, with this F and G. */
+struct worked {
+    const char *what;
+    const uint8_t *job;
+    size_t bytes;
+    const uint8_t *pack;
+    size_t pack_bytes;
+    uint64_t count, loss, gap;
+};
+
+/* Every number of passes that may be given: 14 below the count, and from there on always the same pack, with the same count. Check and keep accept it. */
+static void honours_links(const struct worked *w)
+{
+    uint8_t out[LINKED_ROOM];
+    int refused = 1, same = 1;
+    memset(out, SPARE, sizeof out);
+    for (uint64_t passes = 1; passes < w->count; passes++) {
+        refused = refused && answers(linked(w->job, w->bytes, passes, out, sizeof out), BENCH_NO_PASS_ACCEPTED, passes, 0, 0);
+        refused = wrote(out, NULL, 0) && refused;
+    }
+    for (uint64_t passes = w->count; passes <= BENCH_MOST_PASSES; passes++) {
+        same = same && answers(linked(w->job, w->bytes, passes, out, sizeof out), BENCH_DONE, w->pack_bytes, w->count, 0);
+        same = wrote(out, w->pack, w->pack_bytes) && same;
+    }
+    expect(refused, w->what);
+    expect(same, w->what);
+    linked(w->job, w->bytes, w->count, out, w->pack_bytes);
+    expect_answer(check(w->job, w->bytes, out, w->pack_bytes), BENCH_DONE, 0, w->loss, w->gap, w->what);
+    clear();
+    expect_answer(keep(w->job, w->bytes, out, w->pack_bytes), BENCH_DONE, 0, w->loss, w->gap, w->what);
+}
+
+/* PULLED with this tolerance. */
+static void honours_pulled(const char *what, uint8_t tolerance, const uint8_t *pack, uint64_t count, uint64_t loss, uint64_t gap)
+{
+    uint8_t job[sizeof PULLED];
+    memcpy(job, PULLED, sizeof PULLED);
+    job[5] = tolerance;
+    const struct worked w = {what, job, sizeof job, pack, 4, count, loss, gap};
+    honours_links(&w);
+}
+
+static void linked_proposals(void)
+{
+    const uint8_t second[] = {19, 12, 7, 51}, third[] = {21, 12, 2, 53}, fourth[] = {21, 12, 0, 54}, two_links[] = {2, 2, 1, 2, 0};
+    const struct worked cases[] = {
+        {"u 0 5 0 with its link", ORDERED, sizeof ORDERED, ORDERED_PROPOSAL, 4, 1, 15, 0},
+        {"the same with a link more, which has room", LINKED, sizeof LINKED, two_links, 5, 1, 15, 0},
+        {"a select table with a link", SELECT_LINKED, sizeof SELECT_LINKED, SELECT_LINKED_PROPOSAL, 5, 1, 182, 0},
+        {"the worked example, which has no links", JOB, sizeof JOB, PROPOSAL, 3, 1, 28, 0},
+        {"a select table without links", SELECT, sizeof SELECT, SELECT_PROPOSAL, 4, 1, 62, 0},
+    };
+    for (size_t i = 0; i < sizeof cases / sizeof *cases; i++)
+        honours_links(&cases[i]);
+    honours_pulled("tolerance 0: four passes", 0, fourth, 4, 486, 0);
+    honours_pulled("tolerance 1: four passes", 1, fourth, 4, 486, 0);
+    honours_pulled("tolerance 2: three passes", 2, third, 3, 486, 2);
+    honours_pulled("tolerance 15: three passes", 15, third, 3, 486, 2);
+    honours_pulled("tolerance 16: two passes", 16, second, 2, 494, 16);
+}
+
+/* Two cells of order 1 with crude rates 10^6 and weights 1,000, cell 0 in the box 0..0, and the link v0 <= 0, whose multiplier would be above 2*10^9: it is
+ * limited to 10^9. The other value is 10^9/1001. F = 1000*10^12 + 1000*999^2 + 999,001^2; the residual of cell 1 is 2, and its term 1. */
+static void limited_multiplier(void)
+{
+    const int64_t words[] = {3, 7, 2, 1, 1, 1, 1000000, 1000, 0, 0, 1000000, 1000, 0, 1000000, 1, 1, 0, 1, 0};
+    const uint8_t proposal[] = {0, 0xD9, 0xFC, 0x3C, 0x80, 0x94, 0xEB, 0xDC, 0x03};
+    uint8_t pack[64];
+    size_t bytes = (size_t)BENCH_PLACE(bench_write(words, sizeof words / sizeof *words, pack, sizeof pack, answer, BENCH_ANSWER_WORDS));
+    const struct worked w = {"a multiplier at its limit", pack, bytes, proposal, sizeof proposal, 1, 1000999000999001, 1};
+    honours_links(&w);
+}
+
+/* Each refusal in its order, and nothing written by any. Of u 0 1 0 without links the house's table is 0 0 0, whose gap is 1. */
+static void linked_refusals(void)
+{
+    static const uint64_t wrong[] = {0, 201, 256, 4294967297, 9223372036854775808u, UINT64_MAX};
+    const uint8_t cut[] = {3, 7};
+    uint8_t out[LINKED_ROOM], job[sizeof JOB];
+    memset(out, SPARE, sizeof out);
+    for (size_t i = 0; i < sizeof wrong / sizeof *wrong; i++) {
+        expect_answer(linked(ORDERED, sizeof ORDERED, wrong[i], out, sizeof out), BENCH_BAD_PASSES, 0, 0, 0, "passes that are not allowed");
+        expect_answer(linked(cut, sizeof cut, wrong[i], out, 0), BENCH_BAD_PASSES, 0, 0, 0, "passes come before the job pack");
+        uint64_t said = bench_propose_linked(ORDERED, sizeof ORDERED, wrong[i], out, sizeof out, answer, 3);
+        expect(said == 32 * 4 + 13, "and the answer slice before passes");
+    }
+    expect_answer(linked(cut, sizeof cut, 1, out, 0), BENCH_UNREADABLE, 2, 0, 0, "a pack cut off");
+    expect_answer(linked(ORDERED, sizeof ORDERED, 200, out, 3), BENCH_WRONG_LENGTH, 4, 0, 0, "room one byte short");
+    expect_answer(linked(ORDERED, sizeof ORDERED, 1, out, 0), BENCH_WRONG_LENGTH, 4, 0, 0, "no room");
+    expect_answer(linked(PULLED, sizeof PULLED, 3, out, 0), BENCH_NO_PASS_ACCEPTED, 3, 0, 0, "14 comes before room");
+    expect_answer(linked(PULLED, sizeof PULLED, 4, out, 3), BENCH_WRONG_LENGTH, 4, 0, 0, "room one byte short after four passes");
+    memcpy(job, JOB, sizeof JOB);
+    job[10] = 1;
+    expect_answer(linked(job, sizeof job, 1, out, sizeof out), BENCH_NO_PASS_ACCEPTED, 1, 0, 0, "no links and a gap above the tolerance");
+    expect_answer(linked(job, sizeof job, 200, out, sizeof out), BENCH_NO_PASS_ACCEPTED, 200, 0, 0, "with the number given for its place");
+    expect(wrote(out, NULL, 0), "refused proposals write nothing");
+    expect_answer(linked(ORDERED, sizeof ORDERED, 1, out, 4), BENCH_DONE, 4, 1, 0, "room for all and no more");
+    expect(wrote(out, ORDERED_PROPOSAL, 4), "is enough");
 }
 
 static void round_trip(void)
@@ -477,6 +615,8 @@ static void job_refusals(void)
         expect_answer(check(pack, c->bytes, PROPOSAL, 3), c->number, c->place, 0, 0, c->what);
         expect_answer(terms(pack, c->bytes, PROPOSAL, 0, list, 0), c->number, c->place, 0, 0, c->what);
         expect_answer(bench_propose(pack, c->bytes, out, sizeof out, answer, BENCH_ANSWER_WORDS), c->number, c->place, 0, 0, c->what);
+        expect_answer(linked(pack, c->bytes, 200, out, sizeof out), c->number, c->place, 0, 0, c->what);
+        expect_answer(linked(pack, c->bytes, 201, out, sizeof out), BENCH_BAD_PASSES, 0, 0, 0, "201 passes, whatever the pack has");
         expect_answer(keep(pack, c->bytes, PROPOSAL, 3), c->number, c->place, 0, 0, c->what);
         expect_answer(fetch(pack, c->bytes, no_words, 0), c->number, c->place, 0, 0, c->what);
     }
@@ -528,6 +668,7 @@ static void thin_refusal(void)
     expect_answer(said, BENCH_DONE, 488, 0, 0, "the thin job is written");
     said = bench_propose(pack, 488, out, sizeof out, answer, BENCH_ANSWER_WORDS);
     expect_answer(said, BENCH_TOO_THIN, 119, 0, 0, "data too thin at cell 119");
+    expect_answer(linked(pack, 488, 1, out, 0), BENCH_TOO_THIN, 119, 0, 0, "also for a proposal that honours links");
 }
 
 /* A grid of two rows, weights 1, made with the writer; the answer is its pack's bytes. */
@@ -551,11 +692,13 @@ static void wide_refusal(void)
     expect_answer(said, BENCH_DONE, 24, 0, 0, "12 columns are not too wide");
     bytes = two_rows(13, pack, sizeof pack);
     expect_answer(bench_propose(pack, bytes, out, 0, answer, BENCH_ANSWER_WORDS), BENCH_GRID_TOO_WIDE, 0, 0, 0, "13 columns are too wide");
+    expect_answer(linked(pack, bytes, 200, out, 0), BENCH_GRID_TOO_WIDE, 0, 0, 0, "for either house proposal");
     memset(out, 50, 26);
     expect_answer(check(pack, bytes, out, 26), BENCH_DONE, 0, 0, 0, "but not for the check");
     pack[bytes] = 0;
     said = bench_propose(pack, bytes + 1, out, sizeof out, answer, BENCH_ANSWER_WORDS);
     expect_answer(said, BENCH_UNREADABLE, bytes, 0, 0, "a spare byte comes before the width");
+    expect_answer(linked(pack, bytes + 1, 200, out, sizeof out), BENCH_UNREADABLE, bytes, 0, 0, "for either house proposal");
     for (size_t i = 0; i < 13; i++)
         pack[13 + 4 * i] = pack[13 + 4 * (i + 13)] = i < 3;
     said = bench_propose(pack, bytes, out, sizeof out, answer, BENCH_ANSWER_WORDS);
@@ -594,6 +737,7 @@ static void largest_job(void)
 {
     static int64_t words[BENCH_MOST_JOB_WORDS], again[BENCH_MOST_JOB_WORDS];
     static uint8_t pack[BENCH_MOST_JOB_BYTES], proposal[BENCH_MOST_PROPOSAL_BYTES + 1], out[BENCH_MOST_HOUSE_BYTES];
+    uint8_t house[BENCH_MOST_HOUSE_BYTES];
     const int64_t header[] = {7, 4294967295, 120, 5, 10, 12, 4, 4, 500, 500, 1000000000000000};
     size_t at = largest_words(header, 11, words);
     largest_proposal(proposal);
@@ -606,6 +750,11 @@ static void largest_job(void)
     expect(at == BENCH_MOST_JOB_WORDS && memcmp(words, again, sizeof words) == 0, "with the same numbers");
     said = bench_propose(pack, sizeof pack, out, BENCH_MOST_HOUSE_BYTES, answer, BENCH_ANSWER_WORDS);
     expect_answer(said, BENCH_DONE, BENCH_MOST_HOUSE_BYTES, 0, 0, "the largest house proposal");
+    memcpy(house, out, sizeof out);
+    memset(out, SPARE, sizeof out);
+    said = linked(pack, sizeof pack, 200, out, sizeof out);
+    expect_answer(said, BENCH_DONE, sizeof out, 1, 0, "links with so much room are honoured by the house's table");
+    expect(memcmp(out, house, sizeof out) == 0, "with all multipliers 0");
     said = check(pack, sizeof pack, proposal, BENCH_MOST_PROPOSAL_BYTES);
     expect_answer(said, BENCH_GAP_ABOVE_TOLERANCE, BENCH_MOST_CELLS, 0, 0, "the largest proposal is read");
     said = check(pack, sizeof pack, proposal, BENCH_MOST_PROPOSAL_BYTES + 1);
@@ -1026,6 +1175,12 @@ static void longest_export(void)
 }
 
 /* The numbers and lengths that a caller may have written out. */
+static void linked_constants(void)
+{
+    expect(BENCH_NO_PASS_ACCEPTED == 14 && BENCH_BAD_PASSES == 21 && BENCH_MOST_PASSES == 200, "the numbers of proposals that honour links");
+    expect(BENCH_MOST_PROPOSAL_BYTES == 1160, "the longest proposal");
+}
+
 static void list_constants(void)
 {
     expect(BENCH_BAD_LINE == 16 && BENCH_AGE_NOT_NEXT == 17 && BENCH_DEATHS_ABOVE_EXPOSURE == 18 && BENCH_NO_DIVISOR == 19, "the numbers of lists");
@@ -1038,6 +1193,10 @@ int main(void)
     shelf_is_kept();
     shelf_is_full();
     proposals();
+    linked_proposals();
+    limited_multiplier();
+    linked_refusals();
+    linked_constants();
     round_trip();
     select_table();
     terms_are_listed();

@@ -5,6 +5,7 @@
 #include "../include/bench.h"
 #include "boundary/calls.h"
 #include "boundary/numbers.h"
+#include "boundary/orderings.h"
 #include "twin/twin.h"
 
 #include <stdio.h>
@@ -13,7 +14,11 @@
 #include <time.h>
 #include <ucontext.h>
 
-enum { ROUNDS = 15, STACK_BYTES = 1 << 20, PAINT = 0xC5 };
+/* A call that takes long, in nanoseconds, has few rounds. */
+enum { ROUNDS = 15, FEW_ROUNDS = 3, LONG = 20000000, STACK_BYTES = 1 << 20, PAINT = 0xC5 };
+
+/* The bench, the twin, and for proposals that honour links the twin's way that keeps the solutions. */
+enum { BENCH, TWIN, KEPT, WAYS };
 
 /* What all calls of one input work on. The shelf has these counts of slots. The table's society has all its slots full, the table in the first, and
  * `span` is what they hold. */
@@ -25,6 +30,11 @@ static uint32_t counts[SOCIETIES], shelf[SHELF_WORDS], span[MOST_SLOTS * SLOT_WO
 static uint64_t answer[ANSWER_WORDS];
 static int64_t word_room[BENCH_MOST_JOB_WORDS];
 static uint8_t byte_room[BENCH_MOST_JOB_BYTES];
+
+/* The job of a proposal that honours links, and its passes. */
+static struct draft linked;
+static struct bytes linked_job;
+static uint64_t passes;
 
 /* Lists of as many lines as the table has cells: claims, and rates with their list. Import takes these numbers. */
 static struct bytes claims, table;
@@ -48,6 +58,7 @@ static uint64_t on_bench(enum function function)
     case CHECK: return bench_check(job.at, job.count, proposal.at, proposal.count, answer, ANSWER_WORDS);
     case TERMS: return bench_terms(job.at, job.count, proposal.at, proposal.count, word_room, BENCH_MOST_JOB_WORDS, answer, ANSWER_WORDS);
     case PROPOSE: return bench_propose(job.at, job.count, byte_room, sizeof byte_room, answer, ANSWER_WORDS);
+    case LINKED: return bench_propose_linked(linked_job.at, linked_job.count, passes, byte_room, sizeof byte_room, answer, ANSWER_WORDS);
     case KEEP: return bench_keep(shelf, SHELF_WORDS, job.at, job.count, proposal.at, proposal.count, answer, ANSWER_WORDS);
     case FETCH: return bench_fetch(shelf, SHELF_WORDS, job.at, job.count, values, MOST_CELLS, answer, ANSWER_WORDS);
     case FORGET: return put_back(), bench_forget(shelf, SHELF_WORDS, society, number, answer, ANSWER_WORDS);
@@ -69,6 +80,7 @@ static uint64_t on_twin(enum function function)
     case CHECK: return twin_check(job.at, job.count, proposal.at, proposal.count, answer, ANSWER_WORDS);
     case TERMS: return twin_terms(job.at, job.count, proposal.at, proposal.count, word_room, BENCH_MOST_JOB_WORDS, answer, ANSWER_WORDS);
     case PROPOSE: return twin_propose(job.at, job.count, byte_room, sizeof byte_room, answer, ANSWER_WORDS);
+    case LINKED: return twin_propose_linked(linked_job.at, linked_job.count, passes, byte_room, sizeof byte_room, answer, ANSWER_WORDS);
     case KEEP: return twin_keep(shelf, SHELF_WORDS, job.at, job.count, proposal.at, proposal.count, answer, ANSWER_WORDS);
     case FETCH: return twin_fetch(shelf, SHELF_WORDS, job.at, job.count, values, MOST_CELLS, answer, ANSWER_WORDS);
     case FORGET: return put_back(), twin_forget(shelf, SHELF_WORDS, society, number, answer, ANSWER_WORDS);
@@ -85,7 +97,9 @@ static uint64_t on_twin(enum function function)
 
 static uint64_t on_side(int side, enum function function)
 {
-    return side == 0 ? on_bench(function) : on_twin(function);
+    if (side == KEPT)
+        return twin_propose_kept(linked_job.at, linked_job.count, passes, byte_room, sizeof byte_room, answer, ANSWER_WORDS);
+    return side == BENCH ? on_bench(function) : on_twin(function);
 }
 
 /* So many slots for the table's society and for another, and so many for each of the rest. */
@@ -162,6 +176,30 @@ static void use_full_grid(int64_t columns, int64_t down, int64_t across)
     use_four();
 }
 
+static void use_linked(int64_t tolerance, uint64_t allowed)
+{
+    linked.job.tolerance = tolerance;
+    numbers_of_job(&linked.job, &list);
+    numbers_pack(&list, &linked_job);
+    passes = allowed;
+}
+
+/* Document 01's u 0 5 0 with its link. */
+static void use_small_linked(void)
+{
+    const uint8_t pack[] = {3, 7, 3, 2, 1, 0, 0, 1, 0, 100, 5, 1, 0, 100, 0, 1, 0, 100, 1, 2, 0, 1, 1, 2, 0};
+    twin_read_job(pack, sizeof pack, &linked.job);
+    use_linked(0, 1);
+}
+
+/* A job as large as can be, of which one of the first passes is accepted. */
+static void use_accepted(bool grid)
+{
+    struct random random = {7};
+    ordering_full(&random, grid, &linked);
+    use_linked(linked.job.tolerance, 5);
+}
+
 /* The processor's time, so that other programs on the machine count less. */
 static double now(void)
 {
@@ -184,28 +222,36 @@ static int by_size(const void *a, const void *b)
     return (x > y) - (x < y);
 }
 
-static double median_of(double *times)
+static double median_of(double *times, int rounds)
 {
-    qsort(times, ROUNDS, sizeof *times, by_size);
-    return times[ROUNDS / 2];
+    qsort(times, (size_t)rounds, sizeof *times, by_size);
+    return times[rounds / 2];
 }
 
+/* Each way's time, and the bench's over that of each. */
 struct timing {
-    double bench, twin, ratio;
+    double time[WAYS], ratio[WAYS];
 };
 
-static struct timing time_both(enum function function)
+/* The first so many ways in turns, each round beginning with another. */
+static struct timing time_ways(enum function function, int ways)
 {
-    double times[SIDES][ROUNDS], ratios[ROUNDS];
+    double times[WAYS][ROUNDS], ratios[WAYS][ROUNDS];
+    struct timing timing = {{0}, {0}};
     int calls = 1;
-    while (calls < 1 << 20 && time_of(1, function, calls) * calls < 2e6)
+    while (calls < 1 << 20 && time_of(TWIN, function, calls) * calls < 2e6)
         calls *= 2;
-    for (int round = 0; round < ROUNDS; round++) {
-        for (int turn = 0; turn < SIDES; turn++)
-            times[(turn + round) % SIDES][round] = time_of((turn + round) % SIDES, function, calls);
-        ratios[round] = times[0][round] / times[1][round];
+    int rounds = time_of(TWIN, function, calls) > LONG ? FEW_ROUNDS : ROUNDS;
+    for (int round = 0; round < rounds; round++) {
+        for (int turn = 0; turn < ways; turn++)
+            times[(turn + round) % ways][round] = time_of((turn + round) % ways, function, calls);
+        for (int way = 0; way < ways; way++)
+            ratios[way][round] = times[BENCH][round] / times[way][round];
     }
-    struct timing timing = {median_of(times[0]), median_of(times[1]), median_of(ratios)};
+    for (int way = 0; way < ways; way++) {
+        timing.time[way] = median_of(times[way], rounds);
+        timing.ratio[way] = median_of(ratios[way], rounds);
+    }
     return timing;
 }
 
@@ -239,15 +285,16 @@ static size_t stack_of(int side, enum function function)
     return sizeof stack - clean;
 }
 
-/* Both sides must do the same work, or their times cannot be compared. */
-static void same_work(enum function function, const char *input)
+/* All ways must do the same work, or their times cannot be compared. They end in this number. */
+static void same_work(enum function function, const char *input, int ways, uint64_t number)
 {
-    put_back();
-    uint64_t said = on_bench(function);
-    put_back();
-    if (said != on_twin(function) || said % 32 != 0) {
-        printf("FAILED  %s on %s: the bench and its twin answer differently, or refuse\n", call_names[function], input);
-        exit(1);
+    for (int way = 0; way < ways; way++) {
+        put_back();
+        uint64_t said = on_side(way, function);
+        if (said % 32 != number || said != on_twin(function)) {
+            printf("FAILED  %s on %s: the bench and its twin answer differently, or otherwise than they should\n", call_names[function], input);
+            exit(1);
+        }
     }
     put_back();
 }
@@ -257,7 +304,8 @@ static size_t most_stack[2][FUNCTIONS];
 
 static void note_stack(enum function function, size_t bytes)
 {
-    size_t *most = &most_stack[draft.job.order_field == GRID][function];
+    const struct twin_job *of = function == LINKED ? &linked.job : &draft.job;
+    size_t *most = &most_stack[of->order_field == GRID][function];
     *most = bytes > *most ? bytes : *most;
 }
 
@@ -276,24 +324,76 @@ static bool stack_within(void)
     return within;
 }
 
-/* A line of the table for each call from `first` to `last` on the input that is in use. */
+static void print_line(const char *call, const char *input, const struct timing *timing, int way, size_t bench, size_t other)
+{
+    printf("%-9s%-16s%12.0f%12.0f%8.2f%12zu%12zu\n", call, input, timing->time[BENCH], timing->time[way], timing->ratio[way], bench, other);
+}
+
+static size_t stack_above(size_t none, int way, enum function function)
+{
+    put_back();
+    size_t bytes = stack_of(way, function) - none;
+    put_back();
+    return bytes;
+}
+
+/* A line of the table for each call from `first` to `last` on the input that is in use, but for proposals that honour links. */
 static void measure_some(const char *input, bool stack_alone, int first, int last)
 {
-    size_t none = stack_of(0, FUNCTIONS);
+    size_t none = stack_of(BENCH, FUNCTIONS);
     for (int f = first; f <= last; f++) {
         enum function function = (enum function)f;
-        struct timing timing = {0, 0, 0};
-        same_work(function, input);
+        struct timing timing = {{0}, {0}};
+        if (function == LINKED)
+            continue;
+        same_work(function, input, SIDES, BENCH_DONE);
         if (!stack_alone)
-            timing = time_both(function);
-        put_back();
-        size_t bench = stack_of(0, function) - none;
-        put_back();
-        size_t twin = stack_of(1, function) - none;
-        put_back();
+            timing = time_ways(function, SIDES);
+        size_t bench = stack_above(none, BENCH, function);
         note_stack(function, bench);
-        printf("%-9s%-16s%12.0f%12.0f%8.2f%12zu%12zu\n", call_names[f], input, timing.bench, timing.twin, timing.ratio, bench, twin);
+        print_line(call_names[f], input, &timing, TWIN, bench, stack_above(none, TWIN, function));
     }
+}
+
+/* The same for a proposal that honours links, beside the twin and, in a line more, beside its way that keeps the solutions. More passes need no more stack,
+ * so that is measured with few. */
+static void measure_linked(const char *input, bool stack_alone, int ways, uint64_t number)
+{
+    struct timing timing = {{0}, {0}};
+    size_t none = stack_of(BENCH, FUNCTIONS), stack[WAYS];
+    uint64_t few = passes < 5 ? passes : 5;
+    passes = stack_alone ? few : passes;
+    same_work(LINKED, input, ways, number);
+    if (!stack_alone)
+        timing = time_ways(LINKED, ways);
+    passes = few;
+    for (int way = 0; way < ways; way++)
+        stack[way] = stack_above(none, way, LINKED);
+    note_stack(LINKED, stack[BENCH]);
+    print_line("linked", input, &timing, TWIN, stack[BENCH], stack[TWIN]);
+    if (ways > KEPT)
+        print_line("  kept", input, &timing, KEPT, stack[BENCH], stack[KEPT]);
+}
+
+/* Full jobs with tolerance 0, of which no pass is accepted; full ones of which an early pass is; and a small one. */
+static void measure_proposals(bool stack_alone)
+{
+    struct random four = {4}, two = {2}, grid = {12};
+    draft_full(&four, 4, &linked);
+    use_linked(0, MOST_PASSES);
+    measure_linked("order 4, 200", stack_alone, WAYS, BENCH_NO_PASS_ACCEPTED);
+    draft_full(&two, 2, &linked);
+    use_linked(0, 1);
+    measure_linked("order 2, 1", stack_alone, SIDES, BENCH_NO_PASS_ACCEPTED);
+    use_accepted(false);
+    measure_linked("order 4, done", stack_alone, SIDES, BENCH_DONE);
+    use_small_linked();
+    measure_linked("n 3, done", stack_alone, SIDES, BENCH_DONE);
+    draft_full_grid(&grid, MOST_COLUMNS, 4, 4, &linked);
+    use_linked(0, MOST_PASSES);
+    measure_linked("10x12, 200", stack_alone, WAYS, BENCH_NO_PASS_ACCEPTED);
+    use_accepted(true);
+    measure_linked("10x12, done", stack_alone, SIDES, BENCH_DONE);
 }
 
 /* Every call where each society has four slots, then those on a shelf where two have ten and the others two. Lists are measured here alone: they know
@@ -309,8 +409,9 @@ int main(int argc, char **argv)
 {
     bool stack_alone = argc > 1 && strcmp(argv[1], "stack") == 0;
     printf("%s\n", argc > 1 ? argv[1] : "somewhere");
-    printf("Processor time in nanoseconds a call, the median of %d rounds in turns; stack in bytes. forget includes putting its table back.\n",
-           ROUNDS);
+    printf("Processor time in nanoseconds a call, the median of %d rounds in turns, or of %d where a call takes long; stack in bytes. forget includes putting\n"
+           "its table back. linked is told with its passes, or done if one of the first is accepted; kept: the twin keeps the links' solutions.\n",
+           ROUNDS, FEW_ROUNDS);
     printf("%-9s%-16s%12s%12s%8s%12s%12s\n", "call", "input", "bench", "twin", "ratio", "stack", "twin's");
     use_full(4);
     measure("full, order 4", "full, ten slots", stack_alone);
@@ -322,5 +423,6 @@ int main(int argc, char **argv)
     measure_some("grid 10x12", stack_alone, 0, WRITE);
     use_full_grid(2, 2, 1);
     measure_some("grid 60x2", stack_alone, 0, WRITE);
+    measure_proposals(stack_alone);
     return stack_within() ? 0 : 1;
 }

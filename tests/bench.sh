@@ -8,8 +8,8 @@ need_c
 
 out=target/tests
 flags="-std=c99 -Wall -Wextra -Werror -pedantic -O2 -ffp-contract=off"
-twin=$(echo tests/twin/{packs,measure,terms,house,grid,shelf,lists,calls}.c)
-sources=$(echo tests/bench.c tests/boundary/{drafts,ties,shapes,extremes,grids,numbers,calls,lent}.c $twin)
+twin=$(echo tests/twin/{packs,measure,terms,house,grid,linked,shelf,lists,calls}.c)
+sources=$(echo tests/bench.c tests/boundary/{drafts,ties,orderings,halves,shapes,extremes,grids,numbers,calls,lent}.c $twin)
 machine="$(uname -m), $(nproc) processors$(sed -n 's/^model name[^:]*: */, /p' /proc/cpuinfo | head -n 1)"
 mkdir -p "$out" || exit 1
 

@@ -56,12 +56,18 @@ struct twin_answer twin_factor_grid(const struct twin_job *job, struct twin_grid
 void twin_solve_grid(const struct twin_job *job, const struct twin_grid_factor *f, double *v)
 {
     int64_t n = job->cells;
-    for (int64_t j = 0; j < n; j++)
+    for (int64_t j = 0; j < n; j++) {
+        double rest = v[j];
         for (int64_t m = first_of_band(f, j); m < j; m++)
-            v[j] -= f->below[j][j - m] * v[m];
+            rest -= f->below[j][j - m] * v[m];
+        v[j] = rest;
+    }
     for (int64_t j = 0; j < n; j++)
         v[j] = v[j] / f->pivot[j];
-    for (int64_t j = n - 1; j >= 0; j--)
+    for (int64_t j = n - 1; j >= 0; j--) {
+        double rest = v[j];
         for (int64_t m = j + 1; m < n && m <= j + f->band; m++)
-            v[j] -= f->below[m][m - j] * v[m];
+            rest -= f->below[m][m - j] * v[m];
+        v[j] = rest;
+    }
 }

@@ -60,14 +60,20 @@ static struct twin_answer factor_line(const struct twin_job *job, struct twin_li
 static void solve_line(const struct twin_job *job, const struct twin_line_factor *f, double *v)
 {
     int64_t n = job->cells, z = job->down;
-    for (int64_t j = 0; j < n; j++)
+    for (int64_t j = 0; j < n; j++) {
+        double rest = v[j];
         for (int64_t m = first_of_band(job, j); m < j; m++)
-            v[j] -= f->below[j][j - m] * v[m];
+            rest -= f->below[j][j - m] * v[m];
+        v[j] = rest;
+    }
     for (int64_t j = 0; j < n; j++)
         v[j] = v[j] / f->pivot[j];
-    for (int64_t j = n - 1; j >= 0; j--)
+    for (int64_t j = n - 1; j >= 0; j--) {
+        double rest = v[j];
         for (int64_t m = j + 1; m < n && m <= j + z; m++)
-            v[j] -= f->below[m][m - j] * v[m];
+            rest -= f->below[m][m - j] * v[m];
+        v[j] = rest;
+    }
 }
 
 struct twin_answer twin_factor(const struct twin_job *job, union twin_factor *f)

@@ -355,8 +355,8 @@ static void measure_some(const char *input, bool stack_alone, int first, int las
     }
 }
 
-/* The same for a proposal that honours links, beside the twin and, in a line more, beside its way that keeps the solutions. More passes need no more stack,
- * so that is measured with few. */
+/* The same for a proposal that honours links, beside the twin and, in a line more, beside its way that keeps the solutions. More passes need no more
+ * stack, so that is measured with few. */
 static void measure_linked(const char *input, bool stack_alone, int ways, uint64_t number)
 {
     struct timing timing = {{0}, {0}};
@@ -409,8 +409,8 @@ int main(int argc, char **argv)
 {
     bool stack_alone = argc > 1 && strcmp(argv[1], "stack") == 0;
     printf("%s\n", argc > 1 ? argv[1] : "somewhere");
-    printf("Processor time in nanoseconds a call, the median of %d rounds in turns, or of %d where a call takes long; stack in bytes. forget includes putting\n"
-           "its table back. linked is told with its passes, or done if one of the first is accepted; kept: the twin keeps the links' solutions.\n",
+    printf("Processor time in nanoseconds a call, the median of %d rounds in turns, or of %d where a call takes long; stack in bytes. forget includes\n"
+           "putting its table back. linked is told with its passes, or done if one of the first is accepted; kept: the twin keeps the links' solutions.\n",
            ROUNDS, FEW_ROUNDS);
     printf("%-9s%-16s%12s%12s%8s%12s%12s\n", "call", "input", "bench", "twin", "ratio", "stack", "twin's");
     use_full(4);

@@ -1,6 +1,6 @@
-/* See halves.h. With all crude rates at one level U the house's values are U too. With Y = adj(A)a for a link's coefficients a, and N = a.Y, the first pass
- * takes e*Y(i)/N from the value of cell i, and gives the multiplier 2*e*det(A)/N, where e is what the link's sum is above its bound. All of these are
- * whole, and so an e can be found for which one of them is a half. */
+/* See halves.h. With all crude rates at one level U the house's values are U too. With Y = adj(A)a for a link's coefficients a, and N = a.Y, the first
+ * pass takes e*Y(i)/N from the value of cell i, and gives the multiplier 2*e*det(A)/N, where e is what the link's sum is above its bound. All of these
+ * are whole, and so an e can be found for which one of them is a half. */
 #include "halves.h"
 #include "shapes.h"
 

@@ -1,5 +1,5 @@
-/* Jobs of one link whose first pass leaves a value or the multiplier half a unit off a whole one, if nothing were rounded: which way it goes tells the order
- * of the operations. */
+/* Jobs of one link whose first pass leaves a value or the multiplier half a unit off a whole one, if nothing were rounded: which way it goes tells the
+ * order of the operations. */
 #ifndef HALVES_H
 #define HALVES_H
 

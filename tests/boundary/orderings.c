@@ -304,7 +304,8 @@ void ordering_full(struct random *r, bool grid, struct draft *d)
 
 uint64_t ordering_passes(struct random *r, const struct twin_job *job, int64_t first)
 {
-    static const uint64_t few[] = {1, 2, 3, 5}, odd[] = {0, 0, MOST_PASSES + 1, MOST_PASSES + 1, MOST_PASSES + 2, 256, 257, 4294967297, INT64_MAX, UINT64_MAX};
+    static const uint64_t few[] = {1, 2, 3, 5};
+    static const uint64_t odd[] = {0, 0, MOST_PASSES + 1, MOST_PASSES + 1, MOST_PASSES + 2, 256, 257, 4294967297, INT64_MAX, UINT64_MAX};
     int64_t way = random_below(r, 20);
     bool little = work_of_link(job) * job->links <= LITTLE_WORK;
     if (random_chance(r, 4))

@@ -5,7 +5,7 @@
 
 #include "drafts.h"
 
-/* Makes such a job in the draft and answers the first pass that is accepted, or 0 if that is not known. The draft's table is the planted one of no link. */
+/* Makes such a job in the draft and answers the first pass that is accepted, or 0 if that is not known. The draft has no table of its own: all is 0. */
 int64_t ordering_make(struct random *r, struct draft *draft);
 
 /* One that is as large as can be: a line of the highest order, or a grid of 10 by 12. One of its first passes is accepted. */

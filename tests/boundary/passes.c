@@ -9,7 +9,9 @@
 enum { SHAPES = 2 };
 
 /* What a call can be. The first six are the counts of passes made: 1, 2, 3, and so many at least. Those of 14 and 21 are by the passes given. */
-enum kind { ONE, TWO, THREE, FOUR, TEN, FIFTY, ALL_GIVEN, LIMITED, NO_LINKS, NO_LINKS_14, ONE_14, SOME_14, MOST_14, NONE_21, ABOVE_21, FAR_21, FULL, KINDS };
+enum kind {
+    ONE, TWO, THREE, FOUR, TEN, FIFTY, ALL_GIVEN, LIMITED, NO_LINKS, NO_LINKS_14, ONE_14, SOME_14, MOST_14, NONE_21, ABOVE_21, FAR_21, FULL, KINDS
+};
 static const char *const KIND_NAMES[KINDS] = {"1", "2", "3", "4-9", "10-49", "50-200", "given", "10^9", "no l", "no l14", "14:1", "14", "14:200",
                                               "21:0", "21:201", "21:far", "full"};
 

@@ -268,8 +268,8 @@ static void linked_proposals(void)
     honours_pulled("tolerance 16: two passes", 16, second, 2, 494, 16);
 }
 
-/* Two cells of order 1 with crude rates 10^6 and weights 1,000, cell 0 in the box 0..0, and the link v0 <= 0, whose multiplier would be above 2*10^9: it is
- * limited to 10^9. The other value is 10^9/1001. F = 1000*10^12 + 1000*999^2 + 999,001^2; the residual of cell 1 is 2, and its term 1. */
+/* Two cells of order 1 with crude rates 10^6 and weights 1,000, cell 0 in the box 0..0, and the link v0 <= 0, whose multiplier would be above 2*10^9:
+ * it is limited to 10^9. The other value is 10^9/1001. F = 1000*10^12 + 1000*999^2 + 999,001^2; the residual of cell 1 is 2, and its term 1. */
 static void limited_multiplier(void)
 {
     const int64_t words[] = {3, 7, 2, 1, 1, 1, 1000000, 1000, 0, 0, 1000000, 1000, 0, 1000000, 1, 1, 0, 1, 0};

@@ -84,7 +84,8 @@ uint64_t twin_terms(const uint8_t *job, size_t job_bytes, const uint8_t *proposa
 }
 
 /* Writes a proposal pack, if there is room for it, and tells what is `done`, with the pack's bytes for its place. */
-static uint64_t hand_out(const struct twin_job *job, const struct twin_table *table, struct twin_answer done, uint8_t *out, size_t out_bytes, uint64_t *answer)
+static uint64_t hand_out(const struct twin_job *job, const struct twin_table *table, struct twin_answer done,
+                         uint8_t *out, size_t out_bytes, uint64_t *answer)
 {
     uint8_t pack[3 * MOST_CELLS + 5 * MOST_LINKS];
     size_t bytes = 0;

@@ -8,13 +8,14 @@
 
 enum { ROOM = 64, SPARE = 0xEE, AT_TOLERANCE = 5 };
 
-/* Document 01's u 0 5 0 with its link -v0 + v1 <= 0. With k = (1, -2, 1) the matrix is I + kk', and what it makes of a right side r is r - k(k.r)/7: of u
- * the values 10/7 15/7 10/7, of the link x = -4/7 1/7 3/7. So c = 5/7 and s = 5/7, the multiplier is 2, and the values less x are 2 2 1. */
+/* Document 01's u 0 5 0 with its link -v0 + v1 <= 0. With k = (1, -2, 1) the matrix is I + kk', and what it makes of a right side r is r - k(k.r)/7: of
+ * u the values 10/7 15/7 10/7, of the link x = -4/7 1/7 3/7. So c = 5/7 and s = 5/7, the multiplier is 2, and the values less x are 2 2 1. */
 static const uint8_t THREE[] = {3, 7, 3, 2, 1, 0, 0, 1, 0, 100, 5, 1, 0, 100, 0, 1, 0, 100, 1, 2, 0, 1, 1, 2, 0};
 static const uint8_t THREE_TABLE[] = {2, 2, 1, 2};
 
-/* Two cells of order 1 with u 30 30, weights and constant 1, and the links v0 <= 21, v1 <= 12. A is 2 -1, -1 2; the links' solutions are 2/3 1/3 and 1/3 2/3,
- * and both c are 2/3. The values begin at 30 30. Pass p ends with v0 = 21 - 27/4^p, v1 = 12, the first multiplier 27/4^(p-1), the second 54 - 54/4^p:
+/* Two cells of order 1 with u 30 30, weights and constant 1, and the links v0 <= 21, v1 <= 12. A is 2 -1, -1 2; the links' solutions are 2/3 1/3 and
+ * 1/3 2/3, and both c are 2/3. The values begin at 30 30. Pass p ends with v0 = 21 - 27/4^p, v1 = 12, the first multiplier 27/4^(p-1), the second
+ * 54 - 54/4^p:
  *     pass 1   57/4      12   27     81/2
  *     pass 2   309/16    12   27/4   405/8      rounded 19 12  7 51   residuals -1  1   gap 1 + 1 + 2*7 = 16
  *     pass 3   1317/64   12   27/16  1701/32    rounded 21 12  2 53   residuals  2 -1   gap 1 + 1 = 2
@@ -22,15 +23,15 @@ static const uint8_t THREE_TABLE[] = {2, 2, 1, 2};
  * After pass 1 the room of the first link is 7 and its multiplier 27, so the gap is above 16 whichever way 81/2 is rounded. */
 static const uint8_t TWO[] = {3, 7, 2, 1, 1, 0, 30, 1, 0, 100, 30, 1, 0, 100, 2, 1, 0, 2, 42, 1, 1, 2, 24};
 
-/* Rows 14 2 and 7 9 with orders 1 and 1, constant 1, second constant 2, and the link v0 - v3 <= -7. A has the eigenvectors (1 1 1 1), (1 1 -1 -1),
- * (1 -1 1 -1) and (1 -1 -1 1) with 1, 3, 5 and 7; u is 8, 0, 5/2 and 7/2 of them, so the values are 9 7 8 8. The link is 1/2 of the second and of the third:
- * x = 4/15 1/15 -1/15 -4/15, c = 8/15, and s is 1. So the multiplier is 2*8*15/8 = 30, and the values less 15 times x are 5 6 9 12. */
+/* Rows 14 2 and 7 9 with orders 1 and 1, constant 1, second constant 2, and the link v0 - v3 <= -7. A has the eigenvectors (1 1 1 1), (1 1 -1 -1), (1
+ * -1 1 -1) and (1 -1 -1 1) with 1, 3, 5 and 7; u is 8, 0, 5/2 and 7/2 of them, so the values are 9 7 8 8. The link is 1/2 of the second and of the
+ * third: x = 4/15 1/15 -1/15 -4/15, c = 8/15, and s is 1. So the multiplier is 2*8*15/8 = 30, and the values less 15 times x are 5 6 9 12. */
 static const uint8_t SQUARE[] = {3, 8, 4, 5, 2, 2, 1, 1, 2, 1, 0, 14, 1, 0, 100, 2, 1, 0, 100, 7, 1, 0, 100, 9, 1, 0, 100, 1, 2, 0, 2, 3, 1, 13};
 static const uint8_t SQUARE_TABLE[] = {5, 6, 9, 12, 30};
 
-/* Two cells of order 1 with u 10^6 and weights 1,000, constant 1, cell 0 in the box 0..0, and the link v0 <= 0. A is 1001 -1, -1 1001, and x is 1001 1 over
- * 1,002,000: the multiplier is 2*10^6/c = 2,001,998,001 and more, and is limited to 10^9. The values are 0 and 10^9/1001, rounded 999,001. The residual
- * of cell 0 counts nothing at its ceiling; that of cell 1 is -2000*999 + 2*999,001 = 2, whose square over 4,000 is rounded up to 1. */
+/* Two cells of order 1 with u 10^6 and weights 1,000, constant 1, cell 0 in the box 0..0, and the link v0 <= 0. A is 1001 -1, -1 1001, and x is 1001 1
+ * over 1,002,000: the multiplier is 2*10^6/c = 2,001,998,001 and more, and is limited to 10^9. The values are 0 and 10^9/1001, rounded 999,001. The
+ * residual of cell 0 counts nothing at its ceiling; that of cell 1 is -2000*999 + 2*999,001 = 2, whose square over 4,000 is rounded up to 1. */
 static const int64_t FAR_WORDS[] = {3, 7, 2, 1, 1, 1, 1000000, 1000, 0, 0, 1000000, 1000, 0, 1000000, 1, 1, 0, 1, 0};
 static const uint8_t FAR_TABLE[] = {0, 0xD9, 0xFC, 0x3C, 0x80, 0x94, 0xEB, 0xDC, 0x03};
 

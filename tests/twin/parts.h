@@ -120,8 +120,8 @@ struct twin_answer twin_house(const struct twin_job *job, int64_t *value);
 void twin_house_values(const struct twin_job *job, const union twin_factor *f, double *v);
 int64_t twin_rounded(double v, int64_t lo, int64_t hi);
 
-/* The proposal that honours links (document 02, W-207), in its parts: the values and multipliers before rounding, as the passes made so far have left them.
- * `kept` is where the solutions of all links are, or a null pointer if each is worked out anew whenever it is asked for. */
+/* The proposal that honours links (document 02, W-207), in its parts: the values and multipliers before rounding, as the passes made so far have left
+ * them. `kept` is where the solutions of all links are, or a null pointer if each is worked out anew whenever it is asked for. */
 struct twin_passes {
     union twin_factor factor;
     double value[MOST_CELLS], multiplier[MOST_LINKS];

@@ -33,8 +33,8 @@ uint64_t twin_export(const uint32_t *rates, size_t rate_count, uint64_t first_ag
 uint64_t twin_rates(const uint8_t *text, size_t text_bytes, uint32_t *out, size_t out_words,
                     uint64_t *answer, size_t answer_words);
 
-/* twin_propose_linked works out each link's solution anew at each pass; this call works out all of them once and keeps them, in 154 KB of stack. Both answer
- * and write the same. */
+/* twin_propose_linked works out each link's solution anew at each pass; this call works out all of them once and keeps them, in 154 KB of stack. Both
+ * answer and write the same. */
 uint64_t twin_propose_kept(const uint8_t *job, size_t job_bytes, uint64_t passes, uint8_t *out, size_t out_bytes,
                            uint64_t *answer, size_t answer_words);
 

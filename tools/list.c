@@ -47,21 +47,6 @@ struct list {
     uint64_t answer[BENCH_ANSWER_WORDS];
 };
 
-/* False where that is no number of 64 bits in digits alone. */
-static bool take_digits(const char *digits, uint64_t *number)
-{
-    *number = 0;
-    if (*digits == 0)
-        return false;
-    for (; *digits != 0; digits++) {
-        uint64_t digit = (uint64_t)(*digits - '0');
-        if (*digits < '0' || *digits > '9' || *number > (UINT64_MAX - digit) / 10)
-            return false;
-        *number = 10 * *number + digit;
-    }
-    return true;
-}
-
 /* Takes NAME=NUMBER, or says what is wrong with it. */
 static bool take_argument(struct list *l, const char *argument)
 {
@@ -201,14 +186,6 @@ static void print_numbers(const struct list *l)
     }
 }
 
-static void write_input(const struct list *l)
-{
-    uint8_t length[9];
-    fwrite(length, 1, put_number(length, (int64_t)l->job_bytes), stdout);
-    fwrite(l->job, 1, l->job_bytes, stdout);
-    fwrite(l->proposal, 1, l->proposal_bytes, stdout);
-}
-
 /* The values of an accepted input, from the first age of the list that it was made of. */
 static bool write_table(struct list *l, const char *path)
 {
@@ -257,7 +234,7 @@ static bool tell(struct list *l, enum what what)
     else if (what == TAKEN)
         print_numbers(l);
     else
-        write_input(l);
+        write_input(l->job, l->job_bytes, l->proposal, l->proposal_bytes);
     return true;
 }
 

@@ -78,11 +78,9 @@ static size_t pack_proposal(const struct table *t, enum way way, uint8_t *out)
 /* False where the output takes no more. */
 static bool write_reversed(const struct table *t, enum way way)
 {
-    uint8_t length[9], job[BENCH_MOST_JOB_BYTES], proposal[BENCH_MOST_PROPOSAL_BYTES];
+    uint8_t job[BENCH_MOST_JOB_BYTES], proposal[BENCH_MOST_PROPOSAL_BYTES];
     size_t job_bytes = pack_job(t, way, job);
-    fwrite(length, 1, put_number(length, (int64_t)job_bytes), stdout);
-    fwrite(job, 1, job_bytes, stdout);
-    fwrite(proposal, 1, pack_proposal(t, way, proposal), stdout);
+    write_input(job, job_bytes, proposal, pack_proposal(t, way, proposal));
     return fflush(stdout) == 0 && !ferror(stdout);
 }
 

@@ -31,6 +31,20 @@ static bool take_number(const uint8_t *bytes, size_t count, size_t *at, int64_t 
     return false;
 }
 
+bool take_digits(const char *digits, uint64_t *number)
+{
+    *number = 0;
+    if (*digits == 0)
+        return false;
+    for (; *digits != 0; digits++) {
+        uint64_t digit = (uint64_t)(*digits - '0');
+        if (*digits < '0' || *digits > '9' || *number > (UINT64_MAX - digit) / 10)
+            return false;
+        *number = 10 * *number + digit;
+    }
+    return true;
+}
+
 size_t put_number(uint8_t *out, int64_t number)
 {
     size_t bytes = 0;
@@ -74,20 +88,36 @@ static void find_fields(struct table *t)
     }
 }
 
-bool read_table(struct table *t)
+bool read_job(struct table *t)
 {
-    uint64_t answer[BENCH_ANSWER_WORDS];
-    size_t at = 0;
     if (!find_packs(t, fread(t->input, 1, sizeof t->input, stdin)))
         return false;
-    bench_check(t->job, t->job_bytes, t->proposal, t->proposal_bytes, t->answer, BENCH_ANSWER_WORDS);
-    if (t->answer[0] >= BENCH_UNREADABLE && t->answer[0] <= BENCH_BAD_PROPOSAL)
+    t->job_words = BENCH_PLACE(bench_read(t->job, t->job_bytes, t->words, BENCH_MOST_JOB_WORDS, t->answer, BENCH_ANSWER_WORDS));
+    if (t->answer[0] != BENCH_DONE)
         return false;
-    t->job_words = BENCH_PLACE(bench_read(t->job, t->job_bytes, t->words, BENCH_MOST_JOB_WORDS, answer, BENCH_ANSWER_WORDS));
     find_fields(t);
+    return true;
+}
+
+bool read_table(struct table *t)
+{
+    size_t at = 0;
+    if (!read_job(t))
+        return false;
+    bench_check(t->job, t->job_bytes, t->proposal, t->proposal_bytes, t->answer, BENCH_ANSWER_WORDS);
+    if (t->answer[0] == BENCH_BAD_PROPOSAL)
+        return false;
     for (int64_t place = 0; place < places(t); place++)
         take_number(t->proposal, t->proposal_bytes, &at, &t->number[place]);
     return true;
+}
+
+void write_input(const uint8_t *job, size_t job_bytes, const uint8_t *proposal, size_t proposal_bytes)
+{
+    uint8_t length[9];
+    fwrite(length, 1, put_number(length, (int64_t)job_bytes), stdout);
+    fwrite(job, 1, job_bytes, stdout);
+    fwrite(proposal, 1, proposal_bytes, stdout);
 }
 
 /* ---- words */

@@ -25,11 +25,20 @@ struct table {
     int64_t number[MOST_PLACES];
 };
 
-/* Reads standard input and asks the check. False where it cannot be read, and then the answer alone is filled in. */
+/* Reads standard input and its job, whatever stands behind that. False where it cannot be read, and then the answer alone is filled in. */
+bool read_job(struct table *t);
+
+/* The same, and then reads the proposal and asks the check. */
 bool read_table(struct table *t);
+
+/* False where that is no number of 64 bits in digits alone. */
+bool take_digits(const char *digits, uint64_t *number);
 
 /* Writes a number in its shortest form, which has 9 bytes at most, and returns its bytes. */
 size_t put_number(uint8_t *out, int64_t number);
+
+/* Writes an input of the checking program to standard output. */
+void write_input(const uint8_t *job, size_t job_bytes, const uint8_t *proposal, size_t proposal_bytes);
 
 int64_t places(const struct table *t);
 const int64_t *cell_of(const struct table *t, int64_t cell);

@@ -3,8 +3,8 @@
  *
  *     JOB PASSES ROOM WORDS
  *
- * JOB is the pack in hex behind an x, ROOM the length of the output, WORDS that of the answer. The line that is printed has what was returned, the four words of the
- * answer, and then what was written, in hex. An output that is written elsewhere, or with a refusal, is told by the word spilled. */
+ * JOB is the pack in hex behind an x, ROOM the length of the output, WORDS that of the answer. The line that is printed has what was returned, the four
+ * words of the answer, and then what was written, in hex. An output that is written elsewhere, or with a refusal, is told by the word spilled. */
 #include <inttypes.h>
 #include <stdio.h>
 #include <stdlib.h>

@@ -1,13 +1,13 @@
 #!/usr/bin/env python3
 """The solver's jobs with links, lines and grids of at most 12 columns apart: how many proposals are accepted at which tolerance T, the house's beside those
-that honour links.
+that honour links, of all of them and of those whose table by the solver keeps off all ends of boxes.
 
-  tests/linked/shares.py            prints the two tables that docs/PERFORMANCE.md has
+  tests/linked/shares.py            prints the tables that docs/PERFORMANCE.md has
   tests/linked/shares.py --check    compares them with that page; ends with 1 where they differ
 
-T is a share of the upper end of the interval of the least loss F (tests/solver/optima), rounded down, and 10^15 at most, which a row of its own has: there only
-broken links are refused. tests/linked/calls.c makes the calls, natively with the object that BENCH_OBJECT names, else with the archive that BENCH_ARCHIVE
-names; without either Python computes the answers.
+T is a share of the upper end of the interval of the least loss F (tests/solver/optima), rounded down, and 10^15 at most, which a row of its own has: there
+hardly anything is refused but a broken link. tests/linked/calls.c makes the calls, natively with the object that BENCH_OBJECT names, else with the archive that
+BENCH_ARCHIVE names; without either Python computes the answers.
 """
 import os
 import subprocess
@@ -31,8 +31,8 @@ from verdict import verdict
 
 MOST_TOLERANCE = 10 ** 15
 # From the largest tolerance to the smallest.
-SHARES = {'T 10^15': None, '1': 1, '1/10': Fraction(1, 10), '1/100': Fraction(1, 100), '1/1,000': Fraction(1, 1000), '1/10,000': Fraction(1, 10000),
-          '1/100,000': Fraction(1, 100000), '1/1,000,000': Fraction(1, 1000000), '0': 0}
+SHARES = {'10^15': None, 'F': 1, 'F/10': Fraction(1, 10), 'F/100': Fraction(1, 100), 'F/1,000': Fraction(1, 1000), 'F/10,000': Fraction(1, 10000),
+          'F/100,000': Fraction(1, 100000), 'F/1,000,000': Fraction(1, 1000000), '0': 0}
 WITHIN = (1, 10, MOST_PASSES)
 FLAGS = '-std=c99 -O2 -Iinclude tests/linked/calls.c'
 
@@ -78,13 +78,17 @@ def counts(jobs, program):
     return out
 
 def houses(jobs):
-    """For each share how many house proposals are accepted."""
+    """For each share of which jobs the house proposal is accepted."""
     out = {}
     for name, share in SHARES.items():
         for x in jobs:
             x.job.tolerance = tolerance(x.optimum.upper, share)
-        out[name] = sum(house_accepted(x.job) for x in jobs)
+        out[name] = [house_accepted(x.job) for x in jobs]
     return out
+
+def inside(x):
+    """Whether no value of the solver's proposal is at an end of its box."""
+    return all(lo < v < hi for v, (_, _, lo, hi) in zip(x.values, x.job.cells))
 
 # ---- tables
 
@@ -92,20 +96,22 @@ def row(share, house, made):
     within = [sum(0 < count <= most for count in made) for most in WITHIN]
     found = [count for count in made if count > 0]
     middle, most = (f'{median(found):g}', max(found)) if found else ('', '')
-    return '| ' + ' | '.join(map(str, [share, house, *within, middle, most])) + ' |'
+    return '| ' + ' | '.join(map(str, [share, sum(house), *within, middle, most])) + ' |'
 
-def table(what, jobs, program):
-    head = [f'{what}: T as a share of F', 'house proposal', *(f'within {most} pass{"es" * (most > 1)}' for most in WITHIN), 'passes, median', 'most']
-    made, of_house = counts(jobs, program), houses(jobs)
-    return ['| ' + ' | '.join(head) + ' |', '|---' * len(head) + '|', *(row(share, of_house[share], made[share]) for share in SHARES)]
+def table(what, made, of_house, taken):
+    """The rows of those jobs that are taken."""
+    head = [f'{sum(taken)} {what}: T', 'house proposal', *(f'within {most} pass{"es" * (most > 1)}' for most in WITHIN), 'passes, median', 'most']
+    rows = (row(name, *([x for x, good in zip(several[name], taken) if good] for several in (of_house, made))) for name in SHARES)
+    return '\n'.join(['| ' + ' | '.join(head) + ' |', '|---' * len(head) + '|', *rows])
 
 def printed():
     jobs = [x for x in checked_jobs() if x.job.links and x.job.shape.columns <= COLUMNS]
-    lines, grids = ([x for x in jobs if x.job.is_grid() == grid] for grid in (False, True))
     with tempfile.TemporaryDirectory() as folder:
-        program = linked_program(f'{folder}/calls')
-        tables = [table(f'{len(lines)} lines', lines, program), table(f'{len(grids)} grids', grids, program)]
-    return '\n\n'.join('\n'.join(lines) for lines in tables) + '\n'
+        made, of_house = counts(jobs, linked_program(f'{folder}/calls')), houses(jobs)
+    kinds = {'lines': lambda x: not x.job.is_grid(), 'grids': lambda x: x.job.is_grid()}
+    tables = [table(what, made, of_house, [kind(x) for x in jobs]) for what, kind in kinds.items()]
+    tables += [table(f'{what} inside their boxes', made, of_house, [kind(x) and inside(x) for x in jobs]) for what, kind in kinds.items()]
+    return '\n\n'.join(tables) + '\n'
 
 def main(arguments):
     found = printed()

@@ -1,6 +1,4 @@
 """Random calls for a proposal that honours links: jobs whose tolerance is the gap of one of their passes, and calls that are refused.
-
-Very small jobs often have a value that falls on a half exactly, and there the last bit of an operation decides how it is rounded.
 """
 from random import Random
 from typing import NamedTuple
@@ -10,7 +8,7 @@ from solver.jobs import job as with_table
 from verdict import gap, term_sum
 
 SEED = 207
-SMALL, HALVES, LINES, GRIDS, SLOW, DAMAGED = 2000, 1500, 150, 120, 100, 400
+SMALL, LINES, GRIDS, SLOW, DAMAGED = 2500, 150, 120, 70, 400
 ROOM = 1160
 MOST_TOLERANCE = 10 ** 15
 
@@ -47,7 +45,7 @@ def small(dice):
     return Job(dice.randint(1, min(4, n - 1)), dice.choice((1, 1, 2, 7)), cells, links)
 
 def on_a_half(dice):
-    """A very small line with a longer link, whose first pass brings a value or a multiplier to a half, but for its last bits."""
+    """A very small line with a longer link, whose first pass brings a value or a multiplier to a half, but for its last bits: these decide how it is rounded."""
     while True:
         job = small(dice)
         if any(len(terms) > 2 for terms, _ in job.links):
@@ -124,8 +122,6 @@ def proposed(dice):
     """Calls that come as far as the passes."""
     for _ in range(SMALL):
         yield from with_tolerance(dice, small(dice), 8)
-    for _ in range(HALVES):
-        yield from with_tolerance(dice, on_a_half(dice), 2)
     for _ in range(LINES):
         yield from with_tolerance(dice, line(dice), dice.choice((3, 40)))
     for _ in range(GRIDS):

@@ -4,19 +4,22 @@
   tests/linked/expect.py make FOLDER       writes FOLDER/calls.in, a call a line
   tests/linked/expect.py compare FOLDER    compares FOLDER/answered, a line for each, tells what was met, and whether each slip of slips.py is told by
                                            one of the calls; the last line is 'N passed, M failed'
+  tests/linked/expect.py bits              draws tests/linked/bits anew, in a minute or two: calls among which each slip of the last bit is told by some
 """
 import sys
 from collections import Counter
 from pathlib import Path
+from random import Random
 
 HERE = Path(__file__).resolve().parent
 sys.path[:0] = [str(HERE), str(HERE.parent)]
-from drawn import call_of, calls, is_small
+from drawn import SEED, call_of, calls, is_small, on_a_half, with_tolerance
 from packs import Refused, job_of
 from passes import ANSWER_WORDS, outcome
 from slips import LARGE, LAST_BIT
 
 FRESH = 0xA5A5A5A5A5A5A5A5
+BITS, TOLD = HERE / 'bits', 20
 # What has to be met, and how often at least.
 LEAST = {
     'lines': {'done': 2000, 'count 1': 1000, 'count 2 to 10': 300, 'count 11 to 50': 10, 'count 51 to 199': 5, 'count 200': 1, 'no link': 300, '14': 300,
@@ -76,18 +79,31 @@ def told(slip, several):
     return found, at
 
 def slips_told(pairs):
-    """For each slip whether a small call tells it, printed."""
-    few = [(call, line) for call, line in pairs if is_small(call) and call.words == ANSWER_WORDS]
+    """For each slip whether a small call tells it, or one of those that were drawn for the last bit; printed."""
+    bits = len(BITS.read_text().splitlines())
+    few = [(call, line) for call, line in pairs[:-bits] if is_small(call) and call.words == ANSWER_WORDS]
     for slip in LARGE + LAST_BIT:
-        found, at = told(slip, few)
+        found, at = told(slip, few if slip in LARGE else pairs[-bits:])
         print(f'{"found " if found else "FAILED"}  {slip.__doc__[:-1]} (told by {found} of {at} calls)')
         yield found > 0
 
-# ---- the two commands
+# ---- the three commands
+
+def bits():
+    dice, wanted, found = Random(SEED), Counter({slip: TOLD for slip in LAST_BIT}), []
+    while any(wanted.values()):
+        for call in with_tolerance(dice, on_a_half(dice), 2):
+            due = expected(call)
+            tell = [slip for slip in LAST_BIT if wanted[slip] and expected(call, slip) != due]
+            wanted.subtract(tell)
+            found += [call.line() + '\n'] * bool(tell)
+    BITS.write_text(''.join(found))
+    return True
 
 def make(folder):
     with open(Path(folder) / 'calls.in', 'w') as out:
         out.writelines(call.line() + '\n' for call in calls(answered_to))
+        out.write(BITS.read_text())
     return True
 
 def compare(folder):
@@ -110,4 +126,4 @@ def compare(folder):
     return all(tests)
 
 if __name__ == '__main__':
-    sys.exit(0 if {'make': make, 'compare': compare}[sys.argv[1]](sys.argv[2]) else 1)
+    sys.exit(0 if {'make': make, 'compare': compare, 'bits': bits}[sys.argv[1]](*sys.argv[2:]) else 1)

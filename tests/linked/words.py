@@ -13,7 +13,7 @@ from random import Random
 
 HERE = Path(__file__).resolve().parent
 sys.path[:0] = [str(HERE), str(HERE.parent)]
-from drawn import Call, damaged, small, wide_or_thin, with_tolerance
+from drawn import Call, damaged, refused_jobs, small, wide_or_thin, with_tolerance
 from house.expect import outcome as house
 from packs import MOST_INPUT, Job, Refused, job_of, number, packs_of, proposal_of
 from passes import MOST_PASSES, outcome
@@ -142,7 +142,8 @@ def unlinked():
 
 def make(folder):
     dice, met = Random(SEED), Counter()
-    drawn = [(given_by(dice, call), call.passes) for call in (*wide_or_thin(dice), boxed(MOST_PASSES - 1), boxed(MOST_PASSES), unlinked())]
+    special = [*wide_or_thin(dice), boxed(MOST_PASSES - 1), boxed(MOST_PASSES), unlinked(), *list(refused_jobs(dice))[:3]]
+    drawn = [(given_by(dice, call), call.passes) for call in special]
     random = inputs(dice)
     with open(Path(folder) / 'inputs', 'w') as out:
         for i in range(INPUTS):
@@ -155,7 +156,7 @@ def make(folder):
             met['house' if asked.done() and not asked.job.links else 'honours links' if asked.done() else 'refused'] += 1
             out.write(f'{i} {passes}\n')
     print('inputs: ' + ', '.join(f'{kind}: {count}' for kind, count in sorted(met.items(), key=str)))
-    return all(met[kind] for kind in (0, 1, 2, 10, 14, 20, 21, 'house', 'honours links'))
+    return all(met[kind] for kind in (0, *REFUSED, 'house', 'honours links'))
 
 if __name__ == '__main__':
     sys.exit(0 if {'said': said, 'make': make}[sys.argv[1]](*sys.argv[2:]) else 1)

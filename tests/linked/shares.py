@@ -2,8 +2,9 @@
 """The solver's jobs with links, lines and grids of at most 12 columns apart: how many proposals are accepted at which tolerance T, the house's beside those
 that honour links, of all of them and of those whose table by the solver keeps off all ends of boxes.
 
-  tests/linked/shares.py            prints the tables that docs/PERFORMANCE.md has
-  tests/linked/shares.py --check    compares them with that page; ends with 1 where they differ
+  tests/linked/shares.py                   prints the tables that docs/PERFORMANCE.md has
+  tests/linked/shares.py --check PASSES    compares with that page what needs at most so many passes; ends with 1 where something differs. With 200 that is all
+                                           of it; under the emulator 200 passes take a minute, and 10 of them a few seconds
 
 T is a share of the upper end of the interval of the least loss F (tests/solver/optima), rounded down, and 10^15 at most, which a row of its own has: there
 hardly anything is refused but a broken link. tests/linked/calls.c makes the calls, natively with the object that BENCH_OBJECT names, else with the archive that
@@ -20,14 +21,14 @@ from statistics import median
 
 HERE = Path(__file__).resolve().parent
 ROOT = HERE.parents[1]
-PAGE = ROOT / 'docs' / 'PERFORMANCE.md'
+PAGE, SECTION = ROOT / 'docs' / 'PERFORMANCE.md', '## Proposals that honour links\n'
 sys.path[:0] = [str(HERE), str(HERE.parent)]
 from drawn import Call
 from house.expect import COLUMNS, outcome as house
 from packs import proposal_of
 from passes import MOST_PASSES, outcome
 from solver.checked import checked_jobs
-from verdict import verdict
+from verdict import gap, term_sum
 
 MOST_TOLERANCE = 10 ** 15
 # From the largest tolerance to the smallest.
@@ -61,30 +62,29 @@ def asked(calls, program):
 
 # ---- what is accepted
 
-def house_accepted(job):
-    """Whether the check accepts the house proposal; where the data is too thin there is none."""
+def house_gap(job):
+    """The gap of the house proposal; None where it breaks a link, or where the data is too thin for one."""
     said, _, *pack = house(job, 1024)
-    return said == 0 and verdict(job, *proposal_of(bytes(pack), job))[0] == 0
+    if said != 0:
+        return None
+    values, multipliers = proposal_of(bytes(pack), job)
+    return None if any(term_sum(terms, values) > b for terms, b in job.links) else gap(job, values, multipliers)
 
-def counts(jobs, program):
+def counts(jobs, program, most):
     """For each share the count of passes of every job, 0 where none is accepted. A job that has no accepted pass at a tolerance has none at a smaller one."""
     out, left = {}, list(range(len(jobs)))
     for name, share in SHARES.items():
         for i in left:
             jobs[i].job.tolerance = tolerance(jobs[i].optimum.upper, share)
-        found = dict(zip(left, asked([Call(jobs[i].job.pack(), MOST_PASSES) for i in left], program)))
+        found = dict(zip(left, asked([Call(jobs[i].job.pack(), most) for i in left], program)))
         left = [i for i, (number, _) in found.items() if number == 0]
         out[name] = [found[i][1] if i in left else 0 for i in range(len(jobs))]
     return out
 
 def houses(jobs):
     """For each share of which jobs the house proposal is accepted."""
-    out = {}
-    for name, share in SHARES.items():
-        for x in jobs:
-            x.job.tolerance = tolerance(x.optimum.upper, share)
-        out[name] = [house_accepted(x.job) for x in jobs]
-    return out
+    gaps = [house_gap(x.job) for x in jobs]
+    return {name: [own is not None and own <= tolerance(x.optimum.upper, share) for own, x in zip(gaps, jobs)] for name, share in SHARES.items()}
 
 def inside(x):
     """Whether no value of the solver's proposal is at an end of its box."""
@@ -92,34 +92,46 @@ def inside(x):
 
 # ---- tables
 
-def row(share, house, made):
-    within = [sum(0 < count <= most for count in made) for most in WITHIN]
-    found = [count for count in made if count > 0]
-    middle, most = (f'{median(found):g}', max(found)) if found else ('', '')
-    return '| ' + ' | '.join(map(str, [share, sum(house), *within, middle, most])) + ' |'
+def cells(several):
+    return '| ' + ' | '.join(map(str, several)) + ' |'
 
-def table(what, made, of_house, taken):
+def row(share, house, made, most):
+    """The columns that need at most so many passes; the median and the largest count need all."""
+    within, found = [sum(0 < count <= least for count in made) for least in WITHIN if least <= most], [count for count in made if count > 0]
+    middle = ([f'{median(found):g}', max(found)] if found else ['', '']) if most == MOST_PASSES else []
+    return cells([share, sum(house), *within, *middle])
+
+def table(what, made, of_house, taken, most):
     """The rows of those jobs that are taken."""
-    head = [f'{sum(taken)} {what}: T', 'house proposal', *(f'within {most} pass{"es" * (most > 1)}' for most in WITHIN), 'passes, median', 'most']
-    rows = (row(name, *([x for x, good in zip(several[name], taken) if good] for several in (of_house, made))) for name in SHARES)
-    return '\n'.join(['| ' + ' | '.join(head) + ' |', '|---' * len(head) + '|', *rows])
+    head = [f'{sum(taken)} {what}: T', 'house proposal', *(f'within {least} pass{"es" * (least > 1)}' for least in WITHIN if least <= most)]
+    head += ['passes, median', 'most'] if most == MOST_PASSES else []
+    rows = (row(name, *([x for x, good in zip(several[name], taken) if good] for several in (of_house, made)), most) for name in SHARES)
+    return [cells(head), '|---' * len(head) + '|', *rows]
 
-def printed():
+def tables(most):
     jobs = [x for x in checked_jobs() if x.job.links and x.job.shape.columns <= COLUMNS]
     with tempfile.TemporaryDirectory() as folder:
-        made, of_house = counts(jobs, linked_program(f'{folder}/calls')), houses(jobs)
+        made, of_house = counts(jobs, linked_program(f'{folder}/calls'), most), houses(jobs)
     kinds = {'lines': lambda x: not x.job.is_grid(), 'grids': lambda x: x.job.is_grid()}
-    tables = [table(what, made, of_house, [kind(x) for x in jobs]) for what, kind in kinds.items()]
-    tables += [table(f'{what} inside their boxes', made, of_house, [kind(x) and inside(x) for x in jobs]) for what, kind in kinds.items()]
-    return '\n\n'.join(tables) + '\n'
+    return ([table(what, made, of_house, [kind(x) for x in jobs], most) for what, kind in kinds.items()]
+            + [table(f'{what} inside their boxes', made, of_house, [kind(x) and inside(x) for x in jobs], most) for what, kind in kinds.items()])
+
+# ---- the two commands
+
+def check(most):
+    """Every row that is computed is the beginning of the page's."""
+    rows = [x for part in tables(most) for x in part]
+    page = [x for x in PAGE.read_text().partition(SECTION)[2].partition('\n## ')[0].splitlines() if x.startswith('|')]
+    wrong = [f'{a} where {b} is computed' for a, b in zip(page, rows) if not a.startswith(b) or most == MOST_PASSES and a != b]
+    wrong += [f'{len(page)} rows where {len(rows)} are computed'] * (len(page) != len(rows))
+    for what in wrong:
+        print(f'docs/PERFORMANCE.md has {what}')
+    return not wrong
 
 def main(arguments):
-    found = printed()
-    if arguments == ['--check']:
-        same = found in PAGE.read_text()
-        print('docs/PERFORMANCE.md has these tables' if same else f'docs/PERFORMANCE.md has other tables than\n{found}')
-        return same
-    print(found, end='')
+    if arguments[:1] == ['--check']:
+        return check(int(arguments[1]))
+    print('\n\n'.join('\n'.join(rows) for rows in tables(MOST_PASSES)))
     return True
 
 if __name__ == '__main__':

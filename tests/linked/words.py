@@ -19,7 +19,7 @@ from packs import MOST_INPUT, Job, Refused, job_of, number, packs_of, proposal_o
 from passes import MOST_PASSES, outcome
 from verdict import verdict
 
-SEED, INPUTS = 7, 70
+SEED, INPUTS = 7, 50
 LINKED = 'proposal that honours links: '
 REFUSED = {
     1: ('job pack, or its length: number unreadable, or spare bytes', 'offset in the job pack; 0 for its length; 8192 for an input that is longer'),

@@ -14,7 +14,7 @@ from random import Random
 HERE = Path(__file__).resolve().parent
 sys.path[:0] = [str(HERE), str(HERE.parent)]
 from drawn import SEED, call_of, calls, is_small, on_a_half, with_tolerance
-from packs import Refused, job_of
+from packs import job_of
 from passes import ANSWER_WORDS, outcome
 from slips import LARGE, LAST_BIT
 

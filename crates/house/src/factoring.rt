@@ -119,7 +119,8 @@ pub fn solve_line(
     ensures { λ r. ⌜ Solves (lineSolved (jobOf (now (words .entry)))) r (now (d .exit)) (now (l .exit)) (now (v .exit)) ⌝ }
 {
     let n = cells_of(words);
-    let a = band(words, n, z);
+    let mut a = [[0.0; 5]; CELLS];
+    band(words, n, z, &mut a);
     let ending = factor_band(&a, n, z, starts, d, l);
     solve_whole(ending, d, l, starts, v, n, z)
 }

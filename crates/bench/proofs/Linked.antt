@@ -6,10 +6,7 @@ use native.Mathlib.Omega.{arith}
 use Rattle.packs.specs.declared.Outcome.{Outcome}
 use Rattle.packs.specs.declared.Outcome.the-variants.{Done, Refused}
 use Rattle.packs.proofs.Near.{Near}
-use Rattle.jobs.specs.Job.{Job}
-use Rattle.jobs.specs.Allowed.{Allowed}
 use Rattle.jobs.proofs.Near.{job-read-near}
-use Rattle.passes.specs.Hildreth.{State}
 use Rattle.linked.specs.Proposal.{Linked, linkedWords, counting, writtenAfter, linkedOf}
 use Rattle.linked.proofs.Cases.{linked-cases}
 use Rattle.bench.specs.Calls.{outcomeOf, offerOf}

@@ -14,7 +14,7 @@ use Rattle.fields.specs.Table.{valuesFrom}
 use Rattle.packs.specs.declared.Outcome.{Outcome}
 use Rattle.packs.specs.declared.Outcome.the-variants.{Done, Refused as Refuses}
 use Rattle.packs.specs.Reading.{readFrom}
-use Rattle.jobs.specs.Packs.{readJob, asSix}
+use Rattle.jobs.specs.Packs.{jobIn, readJob, asSix}
 use Rattle.jobs.proofs.Readings.{read-jobs-allowed}
 use Rattle.tally.specs.Largest.{Largest}
 use Rattle.tally.proofs.Largest.{largest-some, largest-one}
@@ -22,7 +22,7 @@ use Rattle.measure.specs.declared.check.Verdict.{Verdict}
 use Rattle.measure.specs.declared.check.Verdict.the-variants.{Accepted, Refused}
 use Rattle.measure.specs.Largest.{largestPlace}
 use Rattle.measure.specs.Check.{verdictOf, onRead, proposalVerdict, checkOf}
-use Rattle.claims.specs.Read.{jobIn, proposalIn, valuesIn, multipliersIn, lossIn, gapIn, termIn, Reads, BothRead}
+use Rattle.claims.specs.Read.{proposalIn, valuesIn, multipliersIn, lossIn, gapIn, termIn, Reads, BothRead}
 use Rattle.claims.specs.Meets.{EveryInBox, EveryLinkHolds}
 use Rattle.claims.specs.Verdicts.{Acceptable, Outside, Broken, Above}
 use Rattle.claims.specs.Promises.{AcceptedExactly, JobRefusedExactly, ProposalRefusedExactly, OutsideExactly, BrokenExactly, AboveExactly, NoOtherRefusal}

@@ -15,7 +15,7 @@ use Rattle.packs.specs.declared.Outcome.{Outcome}
 use Rattle.packs.specs.Reading.{Ran}
 use Rattle.jobs.specs.Job.{Job}
 use Rattle.jobs.specs.Words.{wordAt}
-use Rattle.jobs.specs.Packs.{readJob, readProposal}
+use Rattle.jobs.specs.Packs.{jobIn, readJob, readProposal}
 use Rattle.measure.specs.declared.check.Verdict.{Verdict}
 use Rattle.measure.specs.Check.{onRead, proposalVerdict, checkOf, verdictFor}
 use Rattle.checked.specs.Answers.{Reply, refusal, accepted}
@@ -25,7 +25,7 @@ use Rattle.checked.proofs.Values.{length-map, map-at}
 use Rattle.numbers.proofs.Both.{both}
 use Rattle.shelf.proofs.Judged.{allowed-verdict}
 use Rattle.checked.proofs.Sound.{Packed, accepted-read, values-count, multipliers-count}
-use Rattle.claims.specs.Read.{jobIn, proposalIn, Reads}
+use Rattle.claims.specs.Read.{proposalIn, Reads}
 use Rattle.claims.specs.Lists.{Table, tableFrom, tableFor}
 
 -- ---- lists of whole numbers that are not negative

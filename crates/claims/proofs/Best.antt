@@ -13,10 +13,11 @@ use Rattle.certificate.proofs.Terms.{rule-certifies}
 use Rattle.jobs.specs.Job.{Job}
 use Rattle.jobs.specs.Allowed.{Allowed}
 use Rattle.jobs.proofs.Readings.{read-jobs-allowed}
+use Rattle.jobs.specs.Packs.{jobIn}
 use Rattle.tally.specs.Supplied.{limit}
 use Rattle.measure.specs.Loss.{lossOf}
 use Rattle.measure.specs.Gap.{linkSum, gapOf}
-use Rattle.claims.specs.Read.{jobIn, valuesIn, multipliersIn, BothRead}
+use Rattle.claims.specs.Read.{valuesIn, multipliersIn, BothRead}
 use Rattle.claims.specs.Meets.{EveryInBox, EveryLinkHolds, Meets, scaledLossOf}
 use Rattle.claims.specs.Verdicts.{Acceptable}
 use Rattle.claims.specs.Promises.{Best, AcceptedMeets}

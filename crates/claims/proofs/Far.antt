@@ -12,10 +12,11 @@ use Rattle.certificate.proofs.Far.{none-far, farness-below, no-rate-far}
 use Rattle.jobs.specs.Job.{Job}
 use Rattle.jobs.specs.Allowed.{Allowed}
 use Rattle.jobs.proofs.Readings.{read-jobs-allowed}
+use Rattle.jobs.specs.Packs.{jobIn}
 use Rattle.tally.specs.Supplied.{limit}
 use Rattle.measure.specs.Loss.{lossOf}
 use Rattle.measure.specs.Gap.{gapOf}
-use Rattle.claims.specs.Read.{jobIn, valuesIn, multipliersIn, BothRead}
+use Rattle.claims.specs.Read.{valuesIn, multipliersIn, BothRead}
 use Rattle.claims.specs.Meets.{EveryInBox, EveryLinkHolds, Meets}
 use Rattle.claims.specs.Far.{farnessOf, AsGood, NoneFar}
 use Rattle.claims.specs.Verdicts.{Acceptable}

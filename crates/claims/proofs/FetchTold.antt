@@ -17,7 +17,7 @@ use Rattle.packs.specs.Reading.{Ran}
 use Rattle.jobs.specs.Job.{Job}
 use Rattle.jobs.specs.Words.{wordAt}
 use Rattle.jobs.specs.Allowed.{Allowed, Proposed}
-use Rattle.jobs.specs.Packs.{readJob, writeProposal}
+use Rattle.jobs.specs.Packs.{jobIn, readJob, writeProposal}
 use Rattle.jobs.proofs.Readings.{read-jobs-allowed, read-jobs-laid}
 use Rattle.jobs.proofs.Trips.{proposed-read-back}
 use Rattle.measure.specs.declared.check.Verdict.{Verdict}
@@ -40,7 +40,7 @@ use Rattle.shelf.proofs.Spans.{Lawful, span-length}
 use Rattle.shelf.proofs.Rows.{rowed-lawful}
 use Rattle.shelf.proofs.Judged.{signed-at, judged-given, all-allowed}
 use Rattle.bench.specs.Answers.{answerWords}
-use Rattle.claims.specs.Read.{jobIn, proposalIn, valuesIn}
+use Rattle.claims.specs.Read.{proposalIn, valuesIn}
 use Rattle.claims.specs.BenchPromises.{ToldBest, ToldFetched}
 use Rattle.claims.proofs.Accepted.{no-other-refusal}
 use Rattle.claims.proofs.Far.{close-same}

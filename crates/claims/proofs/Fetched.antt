@@ -15,7 +15,7 @@ use Rattle.packs.specs.declared.Outcome.the-variants.{Done, Refused as Refuses}
 use Rattle.packs.specs.Reading.{Ran}
 use Rattle.jobs.specs.Job.{Job}
 use Rattle.jobs.specs.Words.{wordAt}
-use Rattle.jobs.specs.Packs.{readJob}
+use Rattle.jobs.specs.Packs.{jobIn, readJob}
 use Rattle.measure.specs.declared.check.Verdict.{Verdict}
 use Rattle.measure.specs.Check.{onRead, proposalVerdict, checkOf}
 use Rattle.checked.specs.Answers.{Reply, accepted}
@@ -27,7 +27,7 @@ use Rattle.counts.specs.Counts.{countIn, testRow, onRow, rowIn}
 use Rattle.shelf.specs.Calls.{Own, Call, keep, fetch, forget, own, clear, said}
 use Rattle.numbers.proofs.Both.{both}
 use Rattle.checked.proofs.Sound.{accepted-read, values-count, multipliers-count}
-use Rattle.claims.specs.Read.{jobIn, valuesIn, Reads}
+use Rattle.claims.specs.Read.{valuesIn, Reads}
 use Rattle.claims.specs.Lists.{Table, tableFrom, tableFor, isOf, fetched, kept, removed, Lists, onList, keptLists, listsAfter, Kept, emptied, keptAfter}
 use Rattle.claims.specs.LastKept.{ClearedWith, shelfAfter, allAfter, held}
 use Rattle.claims.specs.Fetched.{Sent, IsAccepted}

@@ -20,7 +20,7 @@ use Rattle.packs.specs.declared.Outcome.the-variants.{Done, Refused as Refuses}
 use Rattle.packs.specs.Reading.{Ran}
 use Rattle.jobs.specs.Job.{Job}
 use Rattle.jobs.specs.Words.{wordAt}
-use Rattle.jobs.specs.Packs.{handedOut}
+use Rattle.jobs.specs.Packs.{jobIn, handedOut}
 use Rattle.tally.specs.Largest.{Largest}
 use Rattle.measure.specs.declared.check.Verdict.{Verdict}
 use Rattle.measure.specs.declared.check.Verdict.the-variants.{Accepted, Refused}
@@ -31,7 +31,7 @@ use Rattle.measure.proofs.Largest.{front-is, back-is}
 use Rattle.terms.specs.Listing.{entryAt, entries, endOf, termsOf}
 use Rattle.terms.proofs.Listings.{entries-count, entries-word, side-cell, residual-cell, side-link, residual-link}
 use Rattle.bench.specs.Calls.{outcomeOf}
-use Rattle.claims.specs.Read.{jobIn, valuesIn, multipliersIn, termIn}
+use Rattle.claims.specs.Read.{valuesIn, multipliersIn, termIn}
 use Rattle.claims.specs.BenchPromises.{Among, TermsTold}
 use Rattle.claims.proofs.Unwritten.{Kept, handed}
 use Rattle.claims.proofs.Beyond.{Within}

@@ -10,13 +10,13 @@ use lib.IntN.{ℤ}
 use Rattle.numbers.proofs.Clash.{clash}
 use Rattle.packs.specs.declared.Outcome.{Outcome}
 use Rattle.packs.specs.declared.Outcome.the-variants.{Done, Refused as Refuses}
-use Rattle.jobs.specs.Packs.{readJob}
+use Rattle.jobs.specs.Packs.{jobIn, readJob}
 use Rattle.measure.specs.declared.check.Verdict.the-variants.{Refused}
 use Rattle.measure.specs.Check.{checkOf}
 use Rattle.house.specs.Proposal.{onJobRead, proposeOf}
 use Rattle.house.specs.Promises.{Fit, ProposalsFit}
 use Rattle.house.proofs.Fitting as Fitting
-use Rattle.claims.specs.Read.{jobIn, proposalIn, Reads}
+use Rattle.claims.specs.Read.{proposalIn, Reads}
 use Rattle.claims.specs.Verdicts.{Outside}
 use Rattle.claims.specs.HousePromises.{HouseUnprivileged}
 use Rattle.claims.proofs.Accepted.{job-refused-exactly, proposal-refused-exactly, outside-exactly}

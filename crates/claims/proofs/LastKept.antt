@@ -12,7 +12,7 @@ use borrow.Author.Tests.{le-leb, eqb-true, eqb-false, eq-eqb, ne-eqb}
 use lib.IntN.{natAbs}
 use Rattle.packs.specs.declared.Outcome.{Outcome}
 use Rattle.jobs.specs.Job.{Job}
-use Rattle.jobs.specs.Packs.{readJob}
+use Rattle.jobs.specs.Packs.{jobIn, readJob}
 use Rattle.measure.specs.declared.check.Verdict.{Verdict}
 use Rattle.measure.specs.declared.check.Verdict.the-variants.{Accepted, Refused}
 use Rattle.measure.specs.Check.{checkOf}
@@ -29,7 +29,7 @@ use Rattle.claims.specs.Heard.{sent}
 use Rattle.claims.proofs.CountsPromises.{four-each}
 use Rattle.claims.proofs.NoNeighbour.{row-of}
 use Rattle.claims.specs.LastKept.{ClearedWith, isFor, lastBy, lastAfter, lastFrom, lastKept, shelfAfter, allAfter, held, given}
-use Rattle.claims.specs.Read.{jobIn, Reads}
+use Rattle.claims.specs.Read.{Reads}
 use Rattle.checked.proofs.Sound.{accepted-read, values-count}
 use Rattle.claims.proofs.EightLists.{Stands, stands-after, stands-said, from-cleared}
 use Rattle.claims.proofs.AsChecked.{fetched-checked}

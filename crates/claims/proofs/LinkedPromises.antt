@@ -2,23 +2,21 @@
 use Prim.Native.Nat.{ℕ, _+_, _*_, _/_, _%_, _≤_}
 use mathlib.Core.Path.{_≡_, refl, sym, ap, subst, _∙_}
 use mathlib.Core.Bool.{Bool, true, false}
-use mathlib.Core.List.{List, [], _∷_}
+use mathlib.Core.List.{List}
 use native.Mathlib.Omega.{arith}
 use lib.IntN.{ℤ}
-use lib.ListN.{length, take, drop}
+use lib.ListN.{length, take}
 use lib.Seq.{sets}
-use Rattle.numbers.proofs.Clash.{clash}
-use Rattle.measure.specs.declared.check.Verdict.{Verdict}
 use Rattle.measure.specs.declared.check.Verdict.the-variants.{Accepted}
 use Rattle.measure.specs.Check.{checkOf}
 use Rattle.checked.specs.declared.Answer.{Answer}
 use Rattle.checked.specs.Answers.{answerOf}
 use Rattle.linked.specs.declared.Offer.{Offer}
 use Rattle.linked.specs.declared.Offer.the-variants.{Proposed, Refused}
-use Rattle.linked.specs.Proposal.{Linked, mostPasses, linkedOf}
+use Rattle.linked.specs.Proposal.{Linked, linkedOf}
 use Rattle.linked.specs.Promises.{NoneAccepted}
 use Rattle.linked.proofs.Cases.{passes-counted, pass-written, linked-accepted, more-passes-same, fourteen-exactly}
-use Rattle.bench.specs.Answers.{codeOf, answerWords, hasFour, returnedFor, Says}
+use Rattle.bench.specs.Answers.{codeOf, answerWords, hasFour, Says}
 use Rattle.bench.specs.Calls.{CheckSays, offerOf}
 use Rattle.bench.proofs.Linked.{linked-small}
 use Rattle.claims.specs.BenchPromises.{ToldBest}

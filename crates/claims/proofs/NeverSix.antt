@@ -12,7 +12,7 @@ use Rattle.numbers.specs.Choice.{if_then_else_}
 use Rattle.packs.specs.declared.Outcome.{Outcome}
 use Rattle.packs.specs.declared.Outcome.the-variants.{Done, Refused as Refuses}
 use Rattle.packs.specs.Reading.{Ran}
-use Rattle.jobs.specs.Packs.{readJob}
+use Rattle.jobs.specs.Packs.{jobIn, readJob}
 use Rattle.packs.proofs.Near.{Near}
 use Rattle.jobs.proofs.Near.{job-read-near}
 use Rattle.measure.specs.declared.check.Verdict.{Verdict}
@@ -24,7 +24,7 @@ use Rattle.checked.proofs.Sound.{accepted-read}
 use Rattle.shelf.specs.Fetched.{handed, sameCounts, onJob}
 use Rattle.shelf.specs.Calls.{Call, fetch, own, said}
 use Rattle.numbers.proofs.Both.{both}
-use Rattle.claims.specs.Read.{jobIn, Reads}
+use Rattle.claims.specs.Read.{Reads}
 use Rattle.claims.specs.Lists.{Table, tableFrom, tableFor, fetched}
 use Rattle.claims.specs.LastKept.{ClearedWith, shelfAfter, held}
 use Rattle.claims.proofs.Accepted.{proposal-refused-exactly}

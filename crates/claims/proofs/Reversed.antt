@@ -12,7 +12,7 @@ use Rattle.packs.specs.declared.Outcome.the-variants.{Done}
 use Rattle.packs.specs.Reading.{Ran}
 use Rattle.jobs.specs.Words.{cellsOf, rowsOf, columnsOf, linksOf, jobOf}
 use Rattle.jobs.specs.Allowed.{Allowed, Laid, Proposed}
-use Rattle.jobs.specs.Packs.{readJob, writeJob, readProposal, writeProposal}
+use Rattle.jobs.specs.Packs.{jobIn, readJob, writeJob, readProposal, writeProposal}
 use Rattle.jobs.proofs.Readings.{read-jobs-allowed, read-jobs-laid, read-words-counted, read-proposals-proposed}
 use Rattle.jobs.proofs.Trips.{allowed-jobs-written, jobs-read-back, proposed-read-back}
 use Rattle.turned.specs.Words.{turnedWords, turnedValues}
@@ -23,7 +23,7 @@ use Rattle.turned.proofs.Fit.{words-fit}
 use Rattle.turned.proofs.Again.{words-twice}
 use Rattle.turned.proofs.Values.{turned-value, turned-multiplier, turned-proposed, values-twice}
 use Rattle.measure.specs.Check.{valuesOf, multipliersOf}
-use Rattle.claims.specs.Read.{jobIn, proposalIn, Reads, BothRead}
+use Rattle.claims.specs.Read.{proposalIn, Reads, BothRead}
 use Rattle.claims.specs.Reversed.{Way, rowFrom, columnFrom, cellFrom, reversedJob, reversedProposal}
 use Rattle.claims.specs.ReversedPromises.{TableTurned}
 use Rattle.claims.proofs.Ways.{rows-turned, columns-turned, cells-turned}

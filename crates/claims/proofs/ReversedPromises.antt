@@ -19,7 +19,7 @@ use Rattle.packs.proofs.Trips.{writing-back}
 use Rattle.jobs.specs.Job.{Job}
 use Rattle.jobs.specs.Words.{rowsOf, columnsOf, startOf, headWords, orderOf, acrossOf, secondOf, jobOf}
 use Rattle.jobs.specs.Allowed.{Allowed}
-use Rattle.jobs.specs.Packs.{readJob, writeJob, writeProposal, handedOut, readJobInto}
+use Rattle.jobs.specs.Packs.{jobIn, readJob, writeJob, writeProposal, handedOut, readJobInto}
 use Rattle.jobs.proofs.Readings.{six-done}
 use Rattle.jobs.proofs.Trips.{jobs-written-back}
 use Rattle.turned.specs.Words.{turnedWords}
@@ -37,7 +37,7 @@ use Rattle.checked.specs.Answers.{answerOf}
 use Rattle.bench.specs.Answers.{codeOf, answerWords, hasFour, noAnswer, returnedFor, writtenFor}
 use Rattle.bench.specs.Calls.{outcomeOf}
 use Rattle.bench.proofs.Small.{Small, check-small}
-use Rattle.claims.specs.Read.{jobIn, proposalIn, valuesIn, multipliersIn, Reads}
+use Rattle.claims.specs.Read.{proposalIn, valuesIn, multipliersIn, Reads}
 use Rattle.claims.specs.Reversed.{Way, rowsAlone, columnsAlone, bothTogether, cellFrom, reversedJob, reversedProposal, unplaced}
 use Rattle.claims.specs.ReversedPromises.{ReversedReads, ReversedIs, CellsFromLast, CheckedInReverse, CheckedAlike, PlacesDiffer, ToldInReverse, ReversedTwice, BothIsEach, ReversedExamples}
 use Rattle.claims.proofs.Accepted.{on-both}

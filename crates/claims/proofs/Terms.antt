@@ -14,7 +14,7 @@ use Rattle.whole.proofs.Sums.{sum-nonneg}
 use Rattle.whole.proofs.Parts.{sum-longer}
 use Rattle.certificate.proofs.Terms.{cell-terms-not-negative}
 use Rattle.jobs.specs.Job.{Job}
-use Rattle.jobs.specs.Packs.{readJob}
+use Rattle.jobs.specs.Packs.{jobIn, readJob}
 use Rattle.jobs.proofs.Readings.{read-jobs-allowed, read-jobs-laid, read-proposals-proposed}
 use Rattle.jobs.proofs.Places.{upto-nonneg}
 use Rattle.tally.specs.Supplied.{limit}
@@ -23,7 +23,7 @@ use Rattle.measure.specs.Given.{Given}
 use Rattle.measure.proofs.Largest.{front-is, back-is}
 use Rattle.measure.proofs.Totalled.{cell-terms-small}
 use Rattle.measure.proofs.Walks.{link-term-small}
-use Rattle.claims.specs.Read.{jobIn, proposalIn, valuesIn, multipliersIn, termIn, BothRead}
+use Rattle.claims.specs.Read.{proposalIn, valuesIn, multipliersIn, termIn, BothRead}
 use Rattle.claims.specs.Meets.{EveryInBox, EveryLinkHolds, NoneNegative}
 use Rattle.claims.specs.Promises.{EachSideSaid, NoTermNegative, TermAtMost}
 use Rattle.claims.proofs.Sides.{side-said}

@@ -14,6 +14,7 @@ use Rattle.certificate.specs.Differences.{difference}
 use Rattle.jobs.specs.Job.{Job}
 use Rattle.jobs.specs.Allowed.{Allowed}
 use Rattle.jobs.proofs.Places.{upto-nonneg}
+use Rattle.jobs.specs.Packs.{jobIn}
 use Rattle.measure.specs.declared.check.Verdict.{Verdict}
 use Rattle.measure.specs.declared.check.Verdict.the-variants.{Accepted, Refused}
 use Rattle.measure.specs.Loss.{familyOf, familyAcross, acrossAt, lossOf}
@@ -29,7 +30,7 @@ use Rattle.shelf.specs.Fetched.{handed}
 use Rattle.shelf.specs.Shelf.{layoutIn, keepReply}
 use Rattle.shelf.specs.Calls.{own, keep, laidSaid, said}
 use Rattle.bench.specs.Answers.{answerWords}
-use Rattle.claims.specs.Read.{jobIn, valuesIn, lossIn}
+use Rattle.claims.specs.Read.{valuesIn, lossIn}
 use Rattle.claims.specs.Verdicts.{Acceptable}
 use Rattle.claims.specs.Promises.{LossAtMost}
 use Rattle.claims.specs.BenchPromises.{ToldBest}

@@ -12,12 +12,12 @@ use Rattle.numbers.specs.Plain.{numberIn}
 use Rattle.fields.specs.Table.{stepOf}
 use Rattle.packs.specs.Reading.{runFrom}
 use Rattle.jobs.specs.Words.{wordAt, headWords, rowsOf, columnsOf, orderOf, acrossOf, secondOf, startOf}
+use Rattle.jobs.specs.Packs.{jobIn}
 use Rattle.rows.specs.Rows.{rowOf}
 use Rattle.tally.specs.Largest.{largestOf}
 use Rattle.measure.specs.Loss.{lossOf}
 use Rattle.measure.specs.Gap.{linkSum, residualOf, gapOf}
 use Rattle.measure.specs.Check.{lowestFrom, verdictOf}
-use Rattle.claims.specs.Read.{jobIn}
 use Rattle.claims.specs.Meets.{scaledLossOf}
 use Rattle.claims.specs.Far.{farnessOf}
 use Rattle.claims.specs.Worked.{farJob, farTable, farOther}

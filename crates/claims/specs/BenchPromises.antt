@@ -10,6 +10,7 @@ use lib.ListN.{length, drop, getD}
 use Rattle.whole.specs.Sum.{sum}
 use Rattle.numbers.specs.Choice.{if_then_else_}
 use Rattle.jobs.specs.Words.{wordAt}
+use Rattle.jobs.specs.Packs.{jobIn}
 use Rattle.tally.specs.Largest.{Largest}
 use Rattle.measure.specs.declared.check.Verdict.the-variants.{Accepted, Refused}
 use Rattle.measure.specs.Gap.{linkTermOf}
@@ -20,7 +21,7 @@ use Rattle.counts.specs.Counts.{shelfWords, countIn, testRow, rowIn, Ready}
 use Rattle.shelf.specs.Calls.{Call, own, keep, forget, clear}
 use Rattle.bench.specs.Answers.{hasFour}
 use Rattle.bench.specs.Calls.{CheckSays, TermsSays, ProposeSays, ProposeLinkedSays, ReadSays, WriteSays, ImportSays, ExportSays, RatesSays, ShelfSays, FetchSays}
-use Rattle.claims.specs.Read.{jobIn, valuesIn, multipliersIn, gapIn}
+use Rattle.claims.specs.Read.{valuesIn, multipliersIn, gapIn}
 use Rattle.claims.specs.Meets.{NoneBelow}
 use Rattle.claims.specs.Far.{NoneFar}
 use Rattle.claims.specs.Verdicts.{CellTold}

@@ -6,11 +6,12 @@ use mathlib.Core.Logic.{_⊎_}
 use mathlib.Core.List.{List, [], _∷_}
 use lib.IntN.{pos}
 use lib.ListN.{length, getD}
+use Rattle.jobs.specs.Packs.{jobIn}
 use Rattle.measure.specs.declared.check.Verdict.the-variants.{Accepted}
 use Rattle.measure.specs.Check.{checkOf}
 use Rattle.checked.specs.Answers.{Reply}
 use Rattle.shelf.specs.Calls.{Call, own, keep}
-use Rattle.claims.specs.Read.{jobIn, valuesIn}
+use Rattle.claims.specs.Read.{valuesIn}
 use Rattle.claims.specs.Meets.{NoneBelow}
 use Rattle.claims.specs.Far.{NoneFar}
 

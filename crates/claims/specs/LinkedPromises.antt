@@ -5,11 +5,11 @@ use mathlib.Core.Path.{_≡_}
 use mathlib.Core.Bool.{true}
 use mathlib.Core.List.{List, [], _∷_}
 use lib.ListN.{take}
+use Rattle.jobs.specs.Packs.{jobIn}
 use Rattle.linked.specs.Proposal.{mostPasses}
 use Rattle.linked.specs.Promises.{FirstAccepted, NoneAccepted}
 use Rattle.bench.specs.Answers.{hasFour}
 use Rattle.bench.specs.Calls.{CheckSays, ProposeLinkedSays}
-use Rattle.claims.specs.Read.{jobIn}
 use Rattle.claims.specs.BenchPromises.{ToldBest}
 
 -- The answer has the count of passes in the place of F, and that is the first accepted pass of the sequence; the check, asked about the pack, accepts it, and

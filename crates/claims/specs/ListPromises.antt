@@ -4,13 +4,13 @@ use mathlib.Core.Path.{_≡_}
 use mathlib.Core.Bool.{true}
 use mathlib.Core.List.{List}
 use lib.ListN.{length, take}
-use Rattle.jobs.specs.Packs.{readJob}
+use Rattle.jobs.specs.Packs.{jobIn, readJob}
 use Rattle.lists.specs.Promises.{ListText}
 use Rattle.imports.specs.declared.Given.{Given}
 use Rattle.imports.specs.Promises.{PackAllows, JobOfList}
 use Rattle.bench.specs.Answers.{hasFour}
 use Rattle.bench.specs.Calls.{ImportSays, ExportSays, RatesSays}
-use Rattle.claims.specs.Read.{jobIn, Reads}
+use Rattle.claims.specs.Read.{Reads}
 
 -- The text is a claims list, the pack's own tests pass, and the pack reads as the job of that list.
 pub record ImportTold (g : Given) (text pack : List ℕ) : Type 0 where

@@ -15,12 +15,12 @@ use Rattle.packs.specs.declared.Outcome.the-variants.{Refused as Refuses}
 use Rattle.jobs.specs.Words.{wordAt}
 use Rattle.jobs.specs.Job.{Job}
 use Rattle.jobs.specs.Allowed.{Allowed}
-use Rattle.jobs.specs.Packs.{readJob}
+use Rattle.jobs.specs.Packs.{jobIn, readJob}
 use Rattle.rows.specs.Rows.{rowOf}
 use Rattle.measure.specs.declared.check.Verdict.the-variants.{Accepted, Refused}
 use Rattle.measure.specs.Loss.{fitOf, lossOf}
 use Rattle.measure.specs.Check.{checkOf}
-use Rattle.claims.specs.Read.{jobIn, proposalIn, valuesIn, multipliersIn, lossIn, termIn, Reads, BothRead}
+use Rattle.claims.specs.Read.{proposalIn, valuesIn, multipliersIn, lossIn, termIn, Reads, BothRead}
 use Rattle.claims.specs.Meets.{EveryInBox, EveryLinkHolds, Meets, scaledLossOf, NoneBelow, NoneNegative}
 use Rattle.claims.specs.Far.{farnessOf, AsGood, NoneFar}
 use Rattle.claims.specs.Verdicts.{Acceptable, Outside, Broken, Above, SideSaid}

@@ -1,5 +1,5 @@
--- What the promises about the check speak of: the job that a job pack holds, the values and multipliers of a proposal pack for it, and their
--- loss and gap. Each says something only where the packs read.
+-- What the promises about the check speak of: the values and multipliers of a proposal pack for the job of a pack, and their loss and gap. Each says
+-- something only where the packs read.
 use Prim.Native.Nat.{ℕ}
 use mathlib.Core.Path.{_≡_}
 use mathlib.Core.List.{List}
@@ -7,17 +7,11 @@ use lib.IntN.{ℤ}
 use Rattle.packs.specs.declared.Outcome.{Outcome}
 use Rattle.packs.specs.declared.Outcome.the-variants.{Done}
 use Rattle.packs.specs.Reading.{Ran}
-use Rattle.jobs.specs.Job.{Job}
-use Rattle.jobs.specs.Words.{jobOf}
-use Rattle.jobs.specs.Packs.{readJob, readProposal}
+use Rattle.jobs.specs.Packs.{jobIn, readJob, readProposal}
 use Rattle.measure.specs.Loss.{lossOf}
 use Rattle.measure.specs.Gap.{gapOf}
 use Rattle.measure.specs.Largest.{termAt}
 use Rattle.measure.specs.Check.{valuesOf, multipliersOf}
-
--- The job of a job pack.
-abbrev pub jobIn : (job : List ℕ) → Job
-jobIn job = jobOf (readJob job .words)
 
 -- "Proposal pack: n values, then one multiplier per link": n and the links are the job's.
 abbrev pub proposalIn : (job proposal : List ℕ) → Ran

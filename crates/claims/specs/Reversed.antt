@@ -3,11 +3,11 @@ use Prim.Native.Nat.{ℕ}
 use mathlib.Core.List.{List}
 use Rattle.whole.specs.Turned.{fromLast, gridMap}
 use Rattle.jobs.specs.Job.{Job}
-use Rattle.jobs.specs.Packs.{readJob, writeJob, writeProposal}
+use Rattle.jobs.specs.Packs.{jobIn, readJob, writeJob, writeProposal}
 use Rattle.turned.specs.Words.{turnedWords, turnedValues}
 use Rattle.measure.specs.declared.check.Verdict.{Verdict}
 use Rattle.measure.specs.declared.check.Verdict.the-variants.{Accepted, Refused}
-use Rattle.claims.specs.Read.{jobIn, proposalIn}
+use Rattle.claims.specs.Read.{proposalIn}
 
 -- "Grids reverse both ways": their rows alone, their columns alone, or both together.
 pub data Way : Type 0 where

@@ -10,12 +10,12 @@ use Rattle.packs.specs.declared.Outcome.the-variants.{Done}
 use Rattle.packs.specs.Promises.{AllBytes}
 use Rattle.jobs.specs.Job.{Job}
 use Rattle.jobs.specs.Allowed.{Allowed}
-use Rattle.jobs.specs.Packs.{readJob}
+use Rattle.jobs.specs.Packs.{jobIn, readJob}
 use Rattle.turned.specs.About.{TurnedAbout}
 use Rattle.measure.specs.declared.check.Verdict.the-variants.{Refused}
 use Rattle.measure.specs.Check.{checkOf}
 use Rattle.bench.specs.Calls.{CheckSays, ReadSays}
-use Rattle.claims.specs.Read.{jobIn, valuesIn, multipliersIn, Reads, BothRead}
+use Rattle.claims.specs.Read.{valuesIn, multipliersIn, Reads, BothRead}
 use Rattle.claims.specs.Worked.{plain, linked, selectJob}
 use Rattle.claims.specs.Reversed.{Way, rowsAlone, columnsAlone, bothTogether, cellFrom, reversedJob, reversedProposal, unplaced}
 

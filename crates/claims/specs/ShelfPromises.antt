@@ -8,7 +8,7 @@ use mathlib.Core.Option.{some}
 use mathlib.Core.List.{List, []}
 use lib.ListN.{length, replicate}
 use Rattle.numbers.specs.Choice.{if_then_else_}
-use Rattle.jobs.specs.Packs.{readJob}
+use Rattle.jobs.specs.Packs.{jobIn, readJob}
 use Rattle.measure.specs.Check.{checkOf}
 use Rattle.checked.specs.Answers.{Reply, refusal, accepted}
 use Rattle.checked.specs.Checked.{checkedOf}
@@ -18,7 +18,7 @@ use Rattle.counts.specs.declared.Row.the-variants.{Right, Wrong}
 use Rattle.counts.specs.Counts.{shelfWords, countIn, testRow, rowIn, restOf, Ready}
 use Rattle.shelf.specs.Shelf.{spanIn}
 use Rattle.shelf.specs.Calls.{Own, Call, fetch, own, clear, after, said, shelfRun, names}
-use Rattle.claims.specs.Read.{jobIn, Reads}
+use Rattle.claims.specs.Read.{Reads}
 use Rattle.claims.specs.Lists.{Table, tableFrom, tableFor, holds, emptied, listsRun}
 use Rattle.claims.specs.Heard.{heard, without, sent, onlyOwn}
 use Rattle.claims.specs.CountsPromises.{fours}

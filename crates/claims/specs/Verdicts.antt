@@ -8,12 +8,13 @@ use lib.IntN.{ℤ, pos}
 use lib.Signed.{_≤ℤ_, _<ℤ_}
 use Rattle.certificate.specs.Terms.{boxTerm, squareTerm, squareCounts}
 use Rattle.jobs.specs.Job.{Job}
+use Rattle.jobs.specs.Packs.{jobIn}
 use Rattle.tally.specs.declared.term.Supplied.{Supplied}
 use Rattle.tally.specs.declared.term.Supplied.the-variants.{ByBox, ByWeight}
 use Rattle.tally.specs.Supplied.{limit, amountOf}
 use Rattle.tally.specs.Largest.{Largest}
 use Rattle.measure.specs.Gap.{residualOf, cellTermOf, suppliedOf}
-use Rattle.claims.specs.Read.{jobIn, valuesIn, lossIn, gapIn, termIn, BothRead}
+use Rattle.claims.specs.Read.{valuesIn, lossIn, gapIn, termIn, BothRead}
 use Rattle.claims.specs.Meets.{InBox, LinkHolds, EveryInBox, EveryLinkHolds}
 
 -- Both packs read, every value is in its box, every link holds, and the gap is at most the tolerance; F is the loss and G the gap.

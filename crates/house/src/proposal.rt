@@ -20,9 +20,8 @@ use jobs::words::order_of;
 use packs::Outcome;
 ghost use mathlib.Core.Path.{_≡_};
 ghost use Prim.Native.Nat.{_≤_, _<_};
-ghost use lib.IntN.{pos};
 ghost use lib.Ieee.{nan};
-ghost use lib.ListN.{length, getD, replicate};
+ghost use lib.ListN.{length, getD};
 ghost use Rattle.packs.specs.Writing.{Leaves};
 ghost use Rattle.jobs.specs.Words.{jobOf, cellsOf, columnsOf, orderOf};
 ghost use Rattle.house.specs.Known.{Known};
@@ -30,8 +29,8 @@ ghost use Rattle.house.specs.Filled.{filled};
 ghost use Rattle.house.specs.Held.{Narrow};
 ghost use Rattle.house.specs.Proposal.{solvedOf, valueOf, writtenOf, onEnding, proposedOf, proposeOf};
 
-// The most columns of a grid.
-const COLUMNS: usize = 12;
+// The most columns of a grid that is proposed for.
+pub const COLUMNS: usize = 12;
 
 // v rounded out into the box of the cell i.
 fn value_at(words: &[i64], i: usize, v: f64) -> i64

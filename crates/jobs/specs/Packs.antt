@@ -10,9 +10,15 @@ use Rattle.packs.specs.declared.Outcome.{Outcome}
 use Rattle.packs.specs.declared.Outcome.the-variants.{Done, Refused}
 use Rattle.packs.specs.Reading.{Ran, readFrom}
 use Rattle.packs.specs.Writing.{Written, writeFrom}
+use Rattle.jobs.specs.Job.{Job}
+use Rattle.jobs.specs.Words.{jobOf}
 
 abbrev pub readJob : List ℕ → Ran
 readJob s = readFrom Society s
+
+-- The job of a job pack, which says something only where the pack reads.
+abbrev pub jobIn : (job : List ℕ) → Job
+jobIn job = jobOf (readJob job .words)
 
 abbrev pub writeJob : List ℤ → Written
 writeJob ws = writeFrom ws Society 0

@@ -17,6 +17,7 @@ use Rattle.jobs.specs.Job.{Job}
 use Rattle.jobs.specs.Words.{wordAt}
 use Rattle.jobs.specs.Allowed.{Allowed}
 use Rattle.jobs.proofs.Readings.{read-jobs-allowed}
+use Rattle.jobs.specs.Packs.{jobIn}
 use Rattle.measure.specs.declared.check.Verdict.the-variants.{Accepted, Refused as Rejected}
 use Rattle.measure.specs.Loss.{lossOf}
 use Rattle.measure.specs.Gap.{gapOf}
@@ -26,7 +27,7 @@ use Rattle.measure.proofs.Lowest.{lowest-all}
 use Rattle.house.proofs.Boxed.{value-between}
 use Rattle.passes.specs.Hildreth.{State}
 use Rattle.linked.specs.Proposal.{linkedWords, verdictAfter}
-use Rattle.linked.specs.Promises.{jobIn, RejectedByLinkOrGap}
+use Rattle.linked.specs.Promises.{RejectedByLinkOrGap}
 use Rattle.linked.proofs.Words.{value-is}
 
 and-true : (a b : Bool) → T a → T b → (a && b) ≡ true

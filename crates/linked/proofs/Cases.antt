@@ -20,7 +20,7 @@ use Rattle.packs.specs.Writing.{Written, refused as unwritten, inRoom, writeFro
 use Rattle.packs.proofs.Near.{Near}
 use Rattle.packs.proofs.Packing.{length-written}
 use Rattle.jobs.specs.Job.{Job}
-use Rattle.jobs.specs.Packs.{readJob, readProposal, writeProposal}
+use Rattle.jobs.specs.Packs.{jobIn, readJob, readProposal, writeProposal}
 use Rattle.jobs.specs.Allowed.{Allowed}
 use Rattle.jobs.proofs.Near.{job-read-near}
 use Rattle.jobs.proofs.Readings.{read-jobs-allowed, six-done}
@@ -38,7 +38,7 @@ use Rattle.linked.specs.declared.Offer.the-variants.{Proposed, Refused}
 use Rattle.passes.specs.Hildreth.{State, afterPass}
 use Rattle.linked.specs.Proposal.{linkedWords, verdictAfter, passesBefore, Linked, refused, counting, counted, writtenAfter, onFirst, onEnding, linkedFor, onJobRead, fewPasses, linkedOf}
 use Rattle.linked.specs.Promises as P
-use Rattle.linked.specs.Promises.{jobIn, FirstAccepted, PassesCounted, PassWritten, LinkedAccepted, MorePassesSame, NoneAccepted, FourteenExactly}
+use Rattle.linked.specs.Promises.{FirstAccepted, PassesCounted, PassWritten, LinkedAccepted, MorePassesSame, NoneAccepted, FourteenExactly}
 use Rattle.linked.proofs.Words.{linked-proposed}
 use Rattle.linked.proofs.Answering.{none-accepted, wide-linked, narrow-linked, thin-linked, whole-linked, passes-few, asked, pack-refused}
 use Rattle.linked.proofs.First.{none-of, all-before, first-of, more-before}

@@ -1,19 +1,17 @@
 -- Which refusals there are: 21 first, then what the house refuses too, with the same place; 14 and room are left.
-use Prim.Native.Nat.{ℕ, suc, _≤_, _<_}
+use Prim.Native.Nat.{ℕ, suc, _≤_}
 use mathlib.Core.Path.{_≡_, refl, sym, ap, subst, _∙_}
-use mathlib.Core.Logic.{_⊎_, inl, inr}
+use mathlib.Core.Logic.{inl, inr}
 use mathlib.Core.Bool.{Bool, true, false}
 use mathlib.Core.List.{List}
 use lib.Dec.{ltb}
-use lib.ListN.{length}
 use Rattle.numbers.specs.Choice.{if_then_else_}
 use Rattle.numbers.proofs.Clash.{clash}
 use Rattle.packs.specs.declared.Outcome.{Outcome}
 use Rattle.packs.specs.declared.Outcome.the-variants.{Done, Refused as Refuses}
 use Rattle.packs.specs.Writing.{Written, refused as unwritten, inRoom}
-use Rattle.jobs.specs.Job.{Job}
-use Rattle.jobs.specs.Allowed.{Allowed, Proposed as ProposedFor}
-use Rattle.jobs.specs.Packs.{readJob, writeProposal}
+use Rattle.jobs.specs.Allowed.{Proposed as ProposedFor}
+use Rattle.jobs.specs.Packs.{jobIn, readJob, writeProposal}
 use Rattle.jobs.proofs.Readings.{read-jobs-allowed}
 use lib.IntN.{ℤ}
 use Rattle.house.specs.Proposal.{solvedOf, wordsOf, writtenOf, proposedOf, onJobRead as onHouseRead, proposeOf}
@@ -23,8 +21,8 @@ use Rattle.house.proofs.Packable.{proposed-writes}
 use Rattle.passes.specs.Hildreth.{State, afterPass}
 use Rattle.linked.specs.declared.Offer.{Offer}
 use Rattle.linked.specs.declared.Offer.the-variants.{Refused}
-use Rattle.linked.specs.Proposal.{Linked, linkedWords, passesBefore, counted, writtenAfter, fewPasses, linkedOf}
-use Rattle.linked.specs.Promises.{jobIn, TwentyOneFirst, RefusedAsByTheHouse}
+use Rattle.linked.specs.Proposal.{Linked, linkedWords, passesBefore, counted, writtenAfter}
+use Rattle.linked.specs.Promises.{TwentyOneFirst, RefusedAsByTheHouse}
 use Rattle.linked.proofs.Words.{linked-proposed}
 use Rattle.linked.proofs.Answering.{no-passes, many-passes, passes-few}
 use Rattle.linked.proofs.Cases.{Ready, Case, outside, unread, wide, thin, none, first, case, counting-refused}

@@ -8,8 +8,7 @@ use lib.IntN.{ℤ}
 use lib.ListN.{length}
 use Rattle.packs.specs.declared.Outcome.the-variants.{Done, Refused as Refuses}
 use Rattle.jobs.specs.Job.{Job}
-use Rattle.jobs.specs.Words.{jobOf}
-use Rattle.jobs.specs.Packs.{readJob, readProposal}
+use Rattle.jobs.specs.Packs.{jobIn, readJob, readProposal}
 use Rattle.measure.specs.declared.check.Verdict.the-variants.{Accepted, Refused as Rejected}
 use Rattle.measure.specs.Check.{checkOf}
 use Rattle.factor.specs.declared.Ending.the-variants.{Whole}
@@ -17,10 +16,6 @@ use Rattle.house.specs.Proposal.{solvedOf, mostColumns, proposeOf}
 use Rattle.passes.specs.Hildreth.{State, afterPass}
 use Rattle.linked.specs.declared.Offer.the-variants.{Proposed, Refused}
 use Rattle.linked.specs.Proposal.{linkedWords, verdictAfter, acceptedAt, mostPasses, refused, linkedOf}
-
--- The job of a pack.
-abbrev pub jobIn : List ℕ → Job
-jobIn job = jobOf (readJob job .words)
 
 -- "The answer is the first pass whose proposal is accepted, with the count of passes made, at most a number that the caller gives": of the defined
 -- sequence, whose first pass is 1.

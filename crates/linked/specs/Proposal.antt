@@ -1,7 +1,7 @@
 -- Document 02, W-207: the proposal after each pass, the first that the check accepts, and the answer, with its refusals in their order: 21, the job pack's,
 -- 20, 10, 14, and room last.
 use Prim.Native.Nat.{ℕ, suc, _-_}
-use mathlib.Core.Bool.{Bool, true, false, not, _&&_}
+use mathlib.Core.Bool.{Bool, not, _&&_}
 use mathlib.Core.Path.{_≡_}
 use mathlib.Core.List.{List, []}
 use lib.Dec.{leb, ltb}

@@ -1,6 +1,7 @@
 // The house proposal that honours links (document 02, W-207): pass after pass the rounded proposal is checked, up to the first that is accepted.
 use crate::search::search_shape;
 use fields::Field;
+use house::proposal::COLUMNS;
 use jobs::job::JOB_WORDS;
 use jobs::words::columns_of;
 use packs::Outcome;
@@ -15,9 +16,6 @@ pub mod search;
 
 // The most passes that may be asked for.
 const PASSES: u64 = 200;
-
-// The most columns of a grid.
-const COLUMNS: usize = 12;
 
 // What the house answers: a proposal of so many bytes after so many passes, or a refusal with a number and a place.
 pub enum Offer {

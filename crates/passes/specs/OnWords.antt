@@ -4,7 +4,7 @@ use mathlib.Core.Path.{_≡_}
 use mathlib.Core.List.{List}
 use lib.IntN.{ℤ}
 use lib.Ieee.{Float}
-use Rattle.jobs.specs.Words.{wordAt, countAt, cellsOf, linksOf, jobOf}
+use Rattle.jobs.specs.Words.{wordAt, countAt, cellsOf, linksOf}
 use Rattle.house.specs.Known.{Known}
 use Rattle.passes.specs.Hildreth.{Link, State}
 

@@ -8,7 +8,7 @@ use Rattle.jobs.specs.Words.{jobOf, cellsOf}
 use Rattle.factor.specs.Places.{Placed}
 use Rattle.factor.proofs.Turns.{factor-length}
 use Rattle.house.specs.Grid.{gridRows}
-use Rattle.house.proofs.Told.{cells-few, order-few}
+use Rattle.house.proofs.Told.{cells-few}
 use Rattle.house.proofs.Places.{reach-few}
 use Rattle.house.proofs.Solving.{grid-holds, grid-places}
 use borrow.Author.Needs.{needs}

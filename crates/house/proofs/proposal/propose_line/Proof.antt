@@ -1,5 +1,5 @@
 -- Zeros are lent for the line's factor, and its ending and values are the job's.
-use mathlib.Core.Path.{refl, sym, _∙_}
+use mathlib.Core.Path.{refl}
 use denote.Ref.{now}
 use lib.Ieee.{ofBits}
 use lib.ListN.{length}

@@ -288,9 +288,10 @@ uint64_t bench_propose(const uint8_t *job, size_t job_bytes, uint8_t *out, size_
 /* Makes a proposal that honours the job's links, and writes it to `out` as a proposal pack with its multipliers. It begins with the house's values and all
  * multipliers 0; a pass improves each link's multiplier in turn (Hildreth's method), and after each pass the rounded table is checked. The first that the
  * check accepts is the answer. `passes` is the most that may be made, 1..BENCH_MOST_PASSES. Done: bench_check accepts what was written; the place is the pack's
- * bytes, and answer[2], where F stands elsewhere, is the count of passes made: the check tells F and G. A job without links, or whose house proposal is
- * accepted, has count 1. 14: none of the passes allowed gives a table within the tolerance; a larger number may, and never changes any other answer. A grid may
- * have 12 columns at most. docs/LINKED.md fixes every operation. Numbers: 0 to 5, 10, 13, 14, 20, 21. */
+ * bytes, and answer[2], where F stands elsewhere, is the count of passes made: the check tells F and G. There is no pass 0, so the least count is 1, and a job
+ * without links has count 1 or 14. 14: none of the passes allowed gives a table that keeps the links and has a gap within the tolerance; a larger number may
+ * find one, and changes no other answer. It may take some time: docs/LINKED.md says how long, and fixes every operation. A grid may have 12 columns at most.
+ * Numbers: 0 to 5, 10, 13, 14, 20, 21. */
 uint64_t bench_propose_linked(const uint8_t *job, size_t job_bytes, uint64_t passes, uint8_t *out, size_t out_bytes,
                               uint64_t *answer, size_t answer_words);
 

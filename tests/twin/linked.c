@@ -68,7 +68,7 @@ void twin_rounded_table(const struct twin_job *job, const struct twin_passes *p,
         table->multiplier[l] = twin_rounded(p->multiplier[l], 0, MOST_MULTIPLIER);
 }
 
-/* There is no pass 0, so a job without links answers count 1. */
+/* There is no pass 0, so a job without links answers count 1 or 14. */
 struct twin_answer twin_linked(const struct twin_job *job, uint64_t passes, double (*kept)[MOST_CELLS], struct twin_table *table)
 {
     struct twin_passes p;

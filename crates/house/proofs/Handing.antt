@@ -22,7 +22,7 @@ use Rattle.jobs.proofs.Handed.{scratch-part}
 use Rattle.factor.specs.declared.Ending.{Ending}
 use Rattle.factor.specs.declared.Ending.the-variants.{Whole, Thin}
 use Rattle.house.specs.Known.{Known}
-use Rattle.house.specs.Factoring.{Solved, Solves}
+use Rattle.house.specs.Factoring.{Solved}
 use Rattle.house.specs.Filled.{filled}
 use Rattle.house.specs.Proposal.{solvedOf, valueOf, wordsOf, writtenOf, onEnding, proposedOf, onJobRead, proposeOf}
 use Rattle.house.proofs.Fills.{filled-append, length-filled, take-filled}
@@ -57,9 +57,9 @@ module _ (room : ℕ) (j : Job) (few : j .columns ≤ 12) where
   whole-written t = ap {B = Written} (onEnding room j (solvedOf j .values)) (sym t) ∙ narrow-proposed
 
 -- what a solve by another name answers and leaves
-pub ending-is : (room : ℕ) (j : Job) {s : Solved} → s ≡ solvedOf j → {e : Ending} {d l v : List Float} → Solves s e d l v
+pub ending-is : (room : ℕ) (j : Job) {s : Solved} → s ≡ solvedOf j → {e : Ending} {v : List Float} → e ≡ s .ending → v ≡ s .values
     → onEnding room j v e ≡ onEnding room j (solvedOf j .values) (solvedOf j .ending)
-ending-is room j p h = rw (h .0, h .3) (ap {B = Written} (λ (s : Solved). onEnding room j (s .values) (s .ending)) p)
+ending-is room j p he hv = rw (he, hv) (ap {B = Written} (λ (s : Solved). onEnding room j (s .values) (s .ending)) p)
 
 -- ---- the words of the proposal
 

@@ -1,21 +1,24 @@
 -- The values of a job follow from its factor, by what the job is.
-use Prim.Native.Nat.{ℕ, _≤_}
-use mathlib.Core.Path.{_≡_, sym, ap, subst, _∙_}
+use Prim.Native.Nat.{ℕ, zero, suc, _+_, _≤_}
+use mathlib.Core.Path.{_≡_, refl, sym, ap, subst, _∙_}
 use mathlib.Core.Bool.{Bool, true, false}
 use mathlib.Core.List.{List}
 use native.Mathlib.Nat as N
 use native.Mathlib.Omega.{arith}
 use lib.Ieee.{Float}
-use lib.ListN.{length, replicate}
+use lib.ListN.{length, set, replicate, length-set}
+use lib.Seq.{sets}
 use Rattle.numbers.specs.Choice.{if_then_else_}
 use Rattle.jobs.specs.Job.{Job}
 use Rattle.factor.specs.declared.Ending.{Ending}
-use Rattle.factor.specs.Factor.{Band, Factor, startOf, factorFrom, factorOf}
+use Rattle.factor.specs.declared.Pivot.{Pivot}
+use Rattle.factor.specs.declared.Pivot.the-variants.{Accepted, Thin as ThinPivot}
+use Rattle.factor.specs.Factor.{Band, Factor, startOf, judged, factorStep, onPivot, factorFrom, factorOf}
 use Rattle.factor.specs.Places.{Starts, Placed}
 use Rattle.factor.specs.Solve.{solvedBy}
 use Rattle.factor.proofs.Turns.{start-rises, start-wider}
 use Rattle.house.specs.Band.{zero64, bandOf, rightOf}
-use Rattle.house.specs.Factoring.{Solved, Solves, rowsOf, solvedWith}
+use Rattle.house.specs.Factoring.{Solved, Solves, front, HandsOut, rowsOf, solvedWith}
 use Rattle.house.specs.Grid.{reach, gridRows, gridSolved}
 use Rattle.house.specs.Proposal.{lineSolved, solvedOf}
 
@@ -51,6 +54,24 @@ pub grid-holds : (j : Job) {n z : ℕ} {b d₀ l₀ d l v : List Float} {e r : E
 unfolding gridSolved
 grid-holds j {n} {z} {b} en ez eb ed el f k =
     solves-same (λ t. solvedWith 4584 (gridRows j) (ez t) (en t) (eb t)) (solved-holds 4584 (gridRows j) z n b (made-in 4584 (gridRows j) z n ed el f) k)
+
+-- the pivots keep their places
+pub pivots-length : (band : Band) (z n j : ℕ) (d l : List Float) → length (factorFrom band z n j d l .pivots) ≡ length d
+unfolding factorFrom
+pivots-length band z zero j d l = refl
+pivots-length band z (suc n) j d l =
+    let step = factorStep (band j) d l z j in
+    let d1 = set d j (step .pivot) in
+    let l1 = sets l (startOf z j) (step .multipliers) in
+    go (judged (step .pivot)) d1 l1 (factorFrom band z n (j + 1) d1 l1) (pivots-length band z n (j + 1) d1 l1) ∙ length-set d j (step .pivot)
+  where
+    go : (p : Pivot) (d l : List Float) (rest : Factor) → length (rest .pivots) ≡ length d → length (onPivot p j d l rest .pivots) ≡ length d
+    go (Accepted x) d l rest h = h
+    go (ThinPivot x) d l rest h = refl
+
+-- what goes out of the rows that were made
+pub handed-out : (d₀ l₀ : List Float) {s : Solved} {e : Ending} {d l v d′ l′ : List Float} → Solves s e d l v → d′ ≡ front d₀ d → l′ ≡ front l₀ l → HandsOut s d₀ l₀ e d′ l′ v
+handed-out d₀ l₀ h ed el = (h .0, ed ∙ ap (front d₀) (h .1), el ∙ ap (front l₀) (h .2), h .3)
 
 -- there is room for a line's multipliers, and for a grid's
 room-for : (y places : ℕ) → startOf y 120 ≤ places → {z n : ℕ} {starts : List ℕ} {l : List Float} → Starts z n starts → n ≤ 120 → z ≤ y → length l ≡ places → Placed z n starts l

@@ -3,7 +3,7 @@
 use Prim.Native.Nat.{ℕ}
 use mathlib.Core.Path.{_≡_}
 use mathlib.Core.List.{List, []}
-use lib.ListN.{getD, replicate}
+use lib.ListN.{length, getD, take, replicate}
 use lib.Seq.{sets}
 use lib.Ieee.{Float}
 use Rattle.factor.specs.declared.Ending.{Ending}
@@ -42,3 +42,10 @@ solvedWith room band z n right =
 -- What a solve answers, and what it leaves in the lists that it was lent.
 abbrev pub Solves : Solved → Ending → (d l v : List Float) → Type 0
 Solves s e d l v = (e ≡ s .ending) × (d ≡ s .pivots) × (l ≡ s .multipliers) × (v ≡ s .values)
+
+-- The same where the factor goes out only as far as the lists d₀ and l₀ have room for it.
+abbrev pub front : (room xs : List Float) → List Float
+front room xs = sets room 0 (take (length room) xs)
+
+abbrev pub HandsOut : Solved → (d₀ l₀ : List Float) → Ending → (d l v : List Float) → Type 0
+HandsOut s d₀ l₀ e d l v = (e ≡ s .ending) × (d ≡ front d₀ (s .pivots)) × (l ≡ front l₀ (s .multipliers)) × (v ≡ s .values)

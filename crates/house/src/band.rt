@@ -88,12 +88,13 @@ pub fn entries_of(row: &[i64; 5], w: i64, k: i64, n: usize, z: usize, i: usize) 
     [a, b, c, d, e]
 }
 
-// The band of a job, by cell and offset, into a list of zeros.
-pub fn band(words: &[i64], n: usize, z: usize, made: &mut [[f64; 5]; CELLS])
-    requires { ⌜ Known (now words) × (n ≡ cellsOf (now words)) × (z ≡ jobOf (now words) .order) × (now made ≡ replicate 120 (replicate 5 zero64)) ⌝ }
-    ensures { λ _. ⌜ now (made .exit) ≡ bandOf (jobOf (now (words .entry))) ⌝ }
+// The band of a job, by cell and offset.
+pub fn band(words: &[i64], n: usize, z: usize) -> [[f64; 5]; CELLS]
+    requires { ⌜ Known (now words) × (n ≡ cellsOf (now words)) × (z ≡ jobOf (now words) .order) ⌝ }
+    ensures { λ r. ⌜ r ≡ bandOf (jobOf (now (words .entry))) ⌝ }
 {
     let row = rows::row_of(z);
+    let mut made = [[0.0; 5]; CELLS];
     let mut i = 0;
     while i < n {
         let w = weight_at(words, i);
@@ -102,6 +103,7 @@ pub fn band(words: &[i64], n: usize, z: usize, made: &mut [[f64; 5]; CELLS])
         made[i] = entries;
         i += 1;
     }
+    made
 }
 
 fn right_at(w: i64, u: i64) -> f64

@@ -9,18 +9,19 @@ use factor::lowest_of;
 use factor::put_row;
 use factor::solve::solve_whole;
 use factor::start_at;
+use factor::starts_of;
 use factor::value_of;
 use jobs::words::cells_of;
 ghost use mathlib.Core.Path.{_≡_};
 ghost use Prim.Native.Nat.{_+_, _-_, _≤_, _<_};
-ghost use lib.ListN.{length, replicate, take};
+ghost use lib.ListN.{length, take};
 ghost use lib.Seq.{sets};
 ghost use Rattle.factor.specs.Factor.{lowest, startOf, factorStep, factorFrom};
-ghost use Rattle.factor.specs.Places.{Starts, Placed};
+ghost use Rattle.factor.specs.Places.{Placed};
 ghost use Rattle.jobs.specs.Words.{jobOf, cellsOf, orderOf};
 ghost use Rattle.house.specs.Known.{Known};
-ghost use Rattle.house.specs.Band.{zero64, rightOf};
-ghost use Rattle.house.specs.Factoring.{rowsOf, answered, Solves};
+ghost use Rattle.house.specs.Band.{rightOf};
+ghost use Rattle.house.specs.Factoring.{rowsOf, answered, front, HandsOut};
 ghost use Rattle.house.specs.Proposal.{lineSolved};
 
 // The most multipliers of a row, and the most of all rows.
@@ -76,7 +77,7 @@ fn put_made(lj: &[f64], l: &mut [f64], starts: &[u16; STARTS], j: usize, z: usiz
 
 // The factor of the first n rows of a band, into lent pivots and multipliers: the rows made stand there, cell by cell.
 pub fn factor_band(
-    band: &[[f64; 5]; CELLS],
+    band: [[f64; 5]; CELLS],
     n: usize,
     z: usize,
     starts: &[u16; STARTS],
@@ -84,7 +85,7 @@ pub fn factor_band(
     l: &mut [f64],
 ) -> Ending
     requires { ⌜ (n ≤ 120) × (z ≤ 4) × Placed z n (now starts) (now l) ⌝ }
-    ensures { λ r. ⌜ (r ≡ factorFrom (rowsOf (now (band .entry))) z n 0 (now (d .entry)) (now (l .entry)) .ending) × (now (d .exit) ≡ factorFrom (rowsOf (now (band .entry))) z n 0 (now (d .entry)) (now (l .entry)) .pivots) × (now (l .exit) ≡ factorFrom (rowsOf (now (band .entry))) z n 0 (now (d .entry)) (now (l .entry)) .multipliers) ⌝ }
+    ensures { λ r. ⌜ (r ≡ factorFrom (rowsOf band) z n 0 (now (d .entry)) (now (l .entry)) .ending) × (now (d .exit) ≡ factorFrom (rowsOf band) z n 0 (now (d .entry)) (now (l .entry)) .pivots) × (now (l .exit) ≡ factorFrom (rowsOf band) z n 0 (now (d .entry)) (now (l .entry)) .multipliers) ⌝ }
 {
     let mut j = 0;
     while j < n {
@@ -106,21 +107,34 @@ pub fn factor_band(
     Ending::Whole
 }
 
-// How the factoring of a line ends, with its rows in lent lists of zeros; where it is whole, the values before rounding come in place of the right side.
+// The front of a list, as much as is lent.
+fn hand_out(from: &[f64], to: &mut [f64])
+    requires { ⌜ length (now to) ≤ length (now from) ⌝ }
+    ensures { λ _. ⌜ now (to .exit) ≡ front (now (to .entry)) (now (from .entry)) ⌝ }
+{
+    let k = to.len();
+    put_row(&from[0..k], to, 0);
+}
+
+// How the factoring of a line ends; where it is whole, the values before rounding come in place of the right side. Pivots and multipliers go out as far as
+// room is lent for them: who has no use for them lends none.
 pub fn solve_line(
     words: &[i64],
     z: usize,
-    starts: &[u16; STARTS],
-    d: &mut [f64; CELLS],
-    l: &mut [f64; LINE_PLACES],
     v: &mut [f64; CELLS],
+    pivots: &mut [f64],
+    multipliers: &mut [f64],
 ) -> Ending
-    requires { ⌜ Known (now words) × (z ≡ orderOf (now words)) × Starts z (cellsOf (now words)) (now starts) × (now d ≡ replicate 120 zero64) × (now l ≡ replicate 480 zero64) × (now v ≡ rightOf (jobOf (now words))) ⌝ }
-    ensures { λ r. ⌜ Solves (lineSolved (jobOf (now (words .entry)))) r (now (d .exit)) (now (l .exit)) (now (v .exit)) ⌝ }
+    requires { ⌜ Known (now words) × (z ≡ orderOf (now words)) × (now v ≡ rightOf (jobOf (now words))) × (length (now pivots) ≤ 120) × (length (now multipliers) ≤ 480) ⌝ }
+    ensures { λ r. ⌜ HandsOut (lineSolved (jobOf (now (words .entry)))) (now (pivots .entry)) (now (multipliers .entry)) r (now (pivots .exit)) (now (multipliers .exit)) (now (v .exit)) ⌝ }
 {
     let n = cells_of(words);
-    let mut a = [[0.0; 5]; CELLS];
-    band(words, n, z, &mut a);
-    let ending = factor_band(&a, n, z, starts, d, l);
-    solve_whole(ending, d, l, starts, v, n, z)
+    let a = band(words, n, z);
+    let starts = starts_of(n, z);
+    let mut d = [0.0; CELLS];
+    let mut l = [0.0; LINE_PLACES];
+    let ending = factor_band(a, n, z, &starts, &mut d, &mut l);
+    hand_out(&d, pivots);
+    hand_out(&l, multipliers);
+    solve_whole(ending, &d, &l, &starts, v, n, z)
 }

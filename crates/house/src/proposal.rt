@@ -1,6 +1,5 @@
 // The house proposal for a job: solved, rounded out, and written as a proposal pack with every multiplier 0.
 use crate::band::right;
-use crate::factoring::LINE_PLACES;
 use crate::factoring::solve_line;
 use crate::grid::GRID_PLACES;
 use crate::grid::solve_grid;
@@ -78,21 +77,20 @@ fn on_ending(ending: Ending, words: &[i64], v: &[f64; CELLS], out: &mut [u8]) ->
     }
 }
 
-// The proposal for a line, and for a grid, each with room for its own factor.
+// The proposal for a line, whose factor nobody needs any more.
 fn propose_line(words: &[i64], z: usize, out: &mut [u8]) -> Outcome
     requires { ⌜ Known (now words) × (columnsOf (now words) ≡ 1) × (z ≡ orderOf (now words)) ⌝ }
     ensures { λ r. ⌜ Leaves (onEnding (length (now (out .entry))) (jobOf (now (words .entry))) (solvedOf (jobOf (now (words .entry))) .values) (solvedOf (jobOf (now (words .entry))) .ending)) (now (out .entry)) r (now (out .exit)) ⌝ }
 {
-    let n = cells_of(words);
-    let starts = starts_of(n, z);
-    let mut d = [0.0; CELLS];
-    let mut l = [0.0; LINE_PLACES];
     let mut v = [0.0; CELLS];
     right(words, &mut v);
-    let ending = solve_line(words, z, &starts, &mut d, &mut l, &mut v);
+    let mut none = [0.0; 1];
+    let mut neither = [0.0; 1];
+    let ending = solve_line(words, z, &mut v, &mut none[0..0], &mut neither[0..0]);
     on_ending(ending, words, &v, out)
 }
 
+// The proposal for a grid, with room for its factor.
 fn propose_grid(words: &[i64], z: usize, out: &mut [u8]) -> Outcome
     requires { ⌜ Narrow (now words) z × (columnsOf (now words) ≡ 1 → ⊥) ⌝ }
     ensures { λ r. ⌜ Leaves (onEnding (length (now (out .entry))) (jobOf (now (words .entry))) (solvedOf (jobOf (now (words .entry))) .values) (solvedOf (jobOf (now (words .entry))) .ending)) (now (out .entry)) r (now (out .exit)) ⌝ }
@@ -107,15 +105,8 @@ fn propose_grid(words: &[i64], z: usize, out: &mut [u8]) -> Outcome
     on_ending(ending, words, &v, out)
 }
 
-// The same of a low order, and a grid of a small reach. A function that is called from one place only is compiled into its caller, with its room on the
-// stack; with these, the two that need room are called from two places, and a line does not pay for a grid's room, nor a grid for a line's.
-fn propose_low_line(words: &[i64], z: usize, out: &mut [u8]) -> Outcome
-    requires { ⌜ Known (now words) × (columnsOf (now words) ≡ 1) × (z ≡ orderOf (now words)) ⌝ }
-    ensures { λ r. ⌜ Leaves (onEnding (length (now (out .entry))) (jobOf (now (words .entry))) (solvedOf (jobOf (now (words .entry))) .values) (solvedOf (jobOf (now (words .entry))) .ending)) (now (out .entry)) r (now (out .exit)) ⌝ }
-{
-    propose_line(words, z, out)
-}
-
+// The same of a grid of a small reach. A function that is called from one place only is compiled into its caller, with its room on the stack; with this,
+// the one that needs a grid's room is called from two places, and a line does not pay for it.
 fn propose_small_grid(words: &[i64], z: usize, out: &mut [u8]) -> Outcome
     requires { ⌜ Narrow (now words) z × (columnsOf (now words) ≡ 1 → ⊥) ⌝ }
     ensures { λ r. ⌜ Leaves (onEnding (length (now (out .entry))) (jobOf (now (words .entry))) (solvedOf (jobOf (now (words .entry))) .values) (solvedOf (jobOf (now (words .entry))) .ending)) (now (out .entry)) r (now (out .exit)) ⌝ }
@@ -130,9 +121,6 @@ fn propose_shape(words: &[i64], columns: usize, out: &mut [u8]) -> Outcome
 {
     let order = order_of(words);
     if columns == 1 {
-        if order <= 2 {
-            return propose_low_line(words, order, out);
-        }
         return propose_line(words, order, out);
     }
     let z = order * columns;

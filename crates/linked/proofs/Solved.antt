@@ -1,12 +1,13 @@
 -- A line and a grid after their solve: the factor that a pass runs on, and the values that it starts from.
-use Prim.Native.Nat.{ℕ, _*_, _≤_}
+use Prim.Native.Nat.{ℕ, _+_, _*_, _≤_}
 use mathlib.Core.Path.{_≡_, sym, ap, _∙_}
-use mathlib.Core.List.{List}
+use mathlib.Core.List.{List, _++_, append-nil}
 use native.Mathlib.Nat as N
 use native.Mathlib.Omega.{arith}
 use lib.IntN.{ℤ}
 use lib.Ieee.{Float}
-use lib.ListN.{length}
+use lib.ListN.{length, take, drop-of-length-le, take-append-drop}
+use lib.Seq.{sets, sets-eq}
 use Rattle.jobs.specs.Job.{Job}
 use Rattle.jobs.specs.Words.{cellsOf, columnsOf, orderOf, jobOf}
 use Rattle.factor.specs.declared.Ending.{Ending}
@@ -14,19 +15,34 @@ use Rattle.factor.specs.Places.{Starts, Placed}
 use Rattle.factor.proofs.Turns.{factor-length}
 use Rattle.house.specs.Known.{Known}
 use Rattle.house.specs.Band.{bandOf}
-use Rattle.house.specs.Factoring.{Solved, Solves, rowsOf, solvedWith}
+use Rattle.house.specs.Factoring.{Solved, Solves, front, HandsOut, rowsOf, solvedWith}
 use Rattle.house.specs.Grid.{reach, gridRows, gridSolved}
 use Rattle.house.specs.Held.{Narrow}
 use Rattle.house.specs.Proposal.{lineSolved, solvedOf}
 use Rattle.house.proofs.Told.{cells-few, order-few}
 use Rattle.house.proofs.Shaped.{one-column, more-columns}
 use Rattle.house.proofs.Places.{reach-few}
-use Rattle.house.proofs.Solving.{line-is, grid-is, line-places, grid-places}
+use Rattle.house.proofs.Solving.{line-is, grid-is, line-places, grid-places, pivots-length}
 use Rattle.linked.specs.Given.{Factored}
 
 pub line-room : (j : Job) → length (lineSolved j .multipliers) ≡ 480
 unfolding lineSolved solvedWith
 line-room j = factor-length (rowsOf (bandOf j)) (j .order) (j .cells) 0 _ _
+
+line-pivots : (j : Job) → length (lineSolved j .pivots) ≡ 120
+unfolding lineSolved solvedWith
+line-pivots j = pivots-length (rowsOf (bandOf j)) (j .order) (j .cells) 0 _ _
+
+-- a list that is as long as the room goes out whole
+front-whole : (room xs : List Float) → length xs ≡ length room → front room xs ≡ xs
+front-whole room xs e =
+    let all : take (length room) xs ≡ xs = sym (append-nil (take (length room) xs)) ∙ ap (λ (r : List Float). take (length room) xs ++ r) (sym (drop-of-length-le xs {i = length room} (omega (arith, e)))) ∙ take-append-drop (length room) xs in
+    ap (sets room 0) all ∙ sets-eq xs room 0 (omega (arith, e)) ∙ ap (λ (r : List Float). xs ++ r) (drop-of-length-le room {i = 0 + length xs} (omega (arith, e))) ∙ append-nil xs
+
+-- so a line's factor does
+pub line-out : (j : Job) (d₀ l₀ : List Float) → length d₀ ≡ 120 → length l₀ ≡ 480 → {e : Ending} {d l v : List Float} → HandsOut (lineSolved j) d₀ l₀ e d l v
+    → Solves (lineSolved j) e d l v
+line-out j d₀ l₀ hd hl h = (h .0, h .1 ∙ front-whole d₀ (lineSolved j .pivots) (line-pivots j ∙ sym hd), h .2 ∙ front-whole l₀ (lineSolved j .multipliers) (line-room j ∙ sym hl), h .3)
 
 pub grid-room : (j : Job) → length (gridSolved j .multipliers) ≡ 4584
 unfolding gridSolved solvedWith

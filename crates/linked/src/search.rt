@@ -126,12 +126,12 @@ fn search_line(words: &[i64], z: usize, given: u64, out: &mut [u8]) -> Offer
     ensures { λ r. ⌜ Ends (onEnding (length (now (out .entry))) given (jobOf (now (words .entry))) (solvedOf (jobOf (now (words .entry))) .ending)) (now (out .entry)) r (now (out .exit)) ⌝ }
 {
     let n = cells_of(words);
-    let starts = starts_of(n, z);
-    let mut d = [0.0; CELLS];
-    let mut l = [0.0; LINE_PLACES];
     let mut v = [0.0; CELLS];
     right(words, &mut v);
-    let ending = solve_line(words, z, &starts, &mut d, &mut l, &mut v);
+    let mut d = [0.0; CELLS];
+    let mut l = [0.0; LINE_PLACES];
+    let ending = solve_line(words, z, &mut v, &mut d, &mut l);
+    let starts = starts_of(n, z);
     on_ending(ending, words, n, z, &d, &l, &starts, given, &mut v, out)
 }
 

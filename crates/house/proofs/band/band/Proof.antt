@@ -1,15 +1,15 @@
 -- After i turns the places below i hold their rows.
 use mathlib.Core.Path.{_≡_, sym, ap, ap₂, _∙_}
-use Prim.Native.Nat.{ℕ, _+_, _-_, _≤_, _<_}
+use Prim.Native.Nat.{ℕ, _+_, _-_, _*_, _≤_, _<_}
 use native.Mathlib.Nat as N
 use native.Mathlib.Omega.{arith}
 use mathlib.Core.List.{List}
 use lib.IntN.{ℤ}
-use lib.ListN.{set}
-use lib.Ieee.{Float}
+use lib.ListN.{set, replicate}
+use lib.Ieee.{Float, ofBits}
 use Rattle.jobs.specs.Words.{cellsOf, jobOf}
 use Rattle.house.specs.Filled.{filled}
-use Rattle.house.specs.Band.{entriesOf}
+use Rattle.house.specs.Band.{entriesOf, zero64}
 use Rattle.house.proofs.Fills.{filled-more, filled-done}
 use Rattle.house.proofs.Told.{cells-few, order-few, weight-is, weight-small, constant-is, constant-small}
 use borrow.Author.Needs.{needs}
@@ -20,10 +20,10 @@ abbrev lines : List ℤ → (n z : ℕ) → ℕ → List Float
 lines ws n z i = entriesOf (jobOf ws .weight i) (jobOf ws .constant) n z i
 
 abbrev Inv-loop : tie.InvT-loop
-Inv-loop words n z made₀ row i₀ made i = (i ≤ n) × (filled (lines words n z) (n - i) i made ≡ filled (lines words n z) n 0 made₀)
+Inv-loop words n z row made₀ i₀ made i = (i ≤ n) × (filled (lines words n z) (n - i) i made ≡ filled (lines words n z) n 0 made₀)
 
 abbrev μ-loop : tie.MeasureT-loop
-μ-loop words n z made₀ row i₀ made i = n - i
+μ-loop words n z row made₀ i₀ made i = n - i
 
 row-of-requires : tie.Need-row-of-requires Inv-loop μ-loop
 row-of-requires c κs = omega (arith, order-few (c .pre .0), c .pre .2)
@@ -52,11 +52,11 @@ entries-of-requires c κs =
     rw (weight-is k h (w .weight-at .ensures), constant-is k (c .before .constant-of .ensures))
     (N.le-trans (weight-small k h) (omega arith), constant-small k, omega (arith, cells-few k, s .pre .1), omega (arith, order-few k, s .pre .2), omega arith, head .before .row-of .ensures)
 
-mul-entries : tie.Need-mul-entries Inv-loop μ-loop
-mul-entries c = let few = cells-few (c .before .before .before .before .before .before .before .pre .0) in search needs
+mul-made : tie.Need-mul-made Inv-loop μ-loop
+mul-made c = let few = cells-few (c .before .before .before .before .before .before .before .pre .0) in search needs
 
-element-set-from-entries : tie.Need-element-set-from-entries Inv-loop μ-loop
-element-set-from-entries c = let few = cells-few (c .before .before .before .before .before .before .before .pre .0) in search needs
+array-set-from-made : tie.Need-array-set-from-made Inv-loop μ-loop
+array-set-from-made c = let few = cells-few (c .before .before .before .before .before .before .before .pre .0) in search needs
 
 add-i : tie.Need-add-i Inv-loop μ-loop
 add-i c = let few = cells-few (c .before .before .before .before .before .before .before .pre .0) in search needs
@@ -81,12 +81,13 @@ loop-again c =
     )
 
 returns : tie.Need-returns Inv-loop μ-loop
+unfolding ofBits
 returns c =
     let head = c .before in
     let s = head .before .before in
     let ws = s .args .words .now in
     sym (filled-done (lines ws (s .args .n) (s .args .z)) (head .loop .i) (s .args .n) (head .loop .made) (omega arith)) ∙ head .loop .inv .1
-    ∙ (λ t. filled (lines ws (s .pre .1 t) (s .pre .2 t)) (s .pre .1 t) 0 (s .pre .3 t))
+    ∙ ap₂ (λ (n z : ℕ). filled (lines ws n z) n 0 (replicate 120 (replicate 5 zero64))) (s .pre .1) (s .pre .2)
 
 pub band-spec : {M : Type 1} → statement M
 band-spec =
@@ -99,8 +100,8 @@ band-spec =
     weight-at-requires
     constant-of-requires
     entries-of-requires
-    mul-entries
-    element-set-from-entries
+    mul-made
+    array-set-from-made
     add-i
     loop-less
     loop-again

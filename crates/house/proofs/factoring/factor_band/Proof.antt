@@ -13,10 +13,10 @@ use Rattle.house.proofs.factoring.factor_band.Statement.{statement}
 use Rattle.house.proofs.factoring.factor_band.Tie as tie
 
 abbrev Inv-loop : tie.InvT-loop
-Inv-loop band n z starts d₀ l₀ j₀ d l j = (j ≤ n) × (length l ≡ length l₀) × (factorFrom (rowsOf band) z (n - j) j d l ≡ factorFrom (rowsOf band) z n 0 d₀ l₀)
+Inv-loop n z starts d₀ l₀ band j₀ d l j = (j ≤ n) × (length l ≡ length l₀) × (factorFrom (rowsOf band) z (n - j) j d l ≡ factorFrom (rowsOf band) z n 0 d₀ l₀)
 
 abbrev μ-loop : tie.MeasureT-loop
-μ-loop band n z starts d₀ l₀ j₀ d l j = n - j
+μ-loop n z starts d₀ l₀ band j₀ d l j = n - j
 
 loop-holds : tie.Need-loop-holds Inv-loop μ-loop
 loop-holds c =
@@ -27,8 +27,8 @@ loop-holds c =
 mul-entries : tie.Need-mul-entries Inv-loop μ-loop
 mul-entries c = search needs
 
-element-copy-out-entries : tie.Need-element-copy-out-entries Inv-loop μ-loop
-element-copy-out-entries c = search needs
+array-copy-out-entries : tie.Need-array-copy-out-entries Inv-loop μ-loop
+array-copy-out-entries c = search needs
 
 factor-step-requires : tie.Need-factor-step-requires Inv-loop μ-loop
 factor-step-requires c κs =
@@ -49,7 +49,7 @@ put-made-requires c κs =
     let head = c .before .before .before .before .before .before .before .before .before in
     let s = c .before .before .before .before .before .before .before .before .before .before .before in
     let a = s .args in
-    let len = line-length (rowsOf (a .band .now)) (head .loop .d) (head .loop .l) (a .z) (head .loop .j) (s .pre .1) (c .before .before .before .before .factor-step .ensures) in
+    let len = line-length (rowsOf (a .t1)) (head .loop .d) (head .loop .l) (a .z) (head .loop .j) (s .pre .1) (c .before .before .before .before .factor-step .ensures) in
     (omega arith, s .pre .1, fewer-rows (omega arith) (as-long (s .pre .2) (head .loop .inv .1)), len)
 
 enum-known-pivot : tie.Need-enum-known-pivot Inv-loop μ-loop
@@ -68,8 +68,8 @@ returns c =
     let s = c .before .before .before .before .before .before .before .before .before .before .before .before .before .before .before .before .before in
     let a = s .args in
     let step = c .before .before .before .before .before .before .before .before .before .before .factor-step .ensures in
-    let told = line-told (rowsOf (a .band .now)) (head .loop .d) (head .loop .l) (a .z) (head .loop .j) (s .pre .1) step in
-    parts (sym (answer-thin (rowsOf (a .band .now)) (a .z) (head .loop .j) (head .loop .d) (head .loop .l) (a .n) (c .before .before .before .before .before .before .before .before .before .before .before .before .before .before .loop-test .taken) (told .0) (told .1) (c .before .before .before .before .before .put-made .ensures ∙ told .2) (c .before .pivot .given .1)) ∙ head .loop .inv .2)
+    let told = line-told (rowsOf (a .t1)) (head .loop .d) (head .loop .l) (a .z) (head .loop .j) (s .pre .1) step in
+    parts (sym (answer-thin (rowsOf (a .t1)) (a .z) (head .loop .j) (head .loop .d) (head .loop .l) (a .n) (c .before .before .before .before .before .before .before .before .before .before .before .before .before .before .loop-test .taken) (told .0) (told .1) (c .before .before .before .before .before .put-made .ensures ∙ told .2) (c .before .pivot .given .1)) ∙ head .loop .inv .2)
 
 enum-told : tie.Need-enum-told Inv-loop μ-loop
 enum-told c = search needs
@@ -88,10 +88,10 @@ loop-again c =
     let j = head .loop .j in
     let step = c .before .before .before .before .before .before .before .before .before .factor-step .ensures in
     let put = c .before .before .before .before .put-made .ensures in
-    let told = line-told (rowsOf (a .band .now)) (head .loop .d) (head .loop .l) (a .z) j (s .pre .1) step in (
+    let told = line-told (rowsOf (a .t1)) (head .loop .d) (head .loop .l) (a .z) j (s .pre .1) step in (
       omega (arith, c .before .before .before .before .before .before .before .before .before .before .before .before .before .loop-test .taken),
       ap length put ∙ length-sets (head .loop .l) (startOf (a .z) j) (take (j - lowest j (a .z)) (c .before .before .before .before .before .before .before .before .before .factor-step .result .row .multipliers)) ∙ head .loop .inv .1,
-      sym (answer-more (rowsOf (a .band .now)) (a .z) j (head .loop .d) (head .loop .l) (a .n) (c .before .before .before .before .before .before .before .before .before .before .before .before .before .loop-test .taken) (told .0) (told .1) (put ∙ told .2) (c .enum-told .given .1)) ∙ head .loop .inv .2,
+      sym (answer-more (rowsOf (a .t1)) (a .z) j (head .loop .d) (head .loop .l) (a .n) (c .before .before .before .before .before .before .before .before .before .before .before .before .before .loop-test .taken) (told .0) (told .1) (put ∙ told .2) (c .enum-told .given .1)) ∙ head .loop .inv .2,
     )
 
 same-length-2 : tie.Need-same-length-2 Inv-loop μ-loop
@@ -101,7 +101,7 @@ returns-2 : tie.Need-returns-2 Inv-loop μ-loop
 returns-2 c =
     let head = c .before in
     let a = c .before .before .before .args in
-    parts (sym (factor-done (rowsOf (a .band .now)) (a .z) (head .loop .j) (a .n) (head .loop .d) (head .loop .l) (omega arith)) ∙ head .loop .inv .2)
+    parts (sym (factor-done (rowsOf (a .t1)) (a .z) (head .loop .j) (a .n) (head .loop .d) (head .loop .l) (omega arith)) ∙ head .loop .inv .2)
 
 pub factor-band-spec : {M : Type 1} → statement M
 factor-band-spec =
@@ -111,7 +111,7 @@ factor-band-spec =
     μ-loop
     loop-holds
     mul-entries
-    element-copy-out-entries
+    array-copy-out-entries
     factor-step-requires
     mul-d
     element-write-d

@@ -43,7 +43,7 @@ returns : tie.Need-returns
 returns c =
     let s = c .before .before .before .before .before .before .before .before .before .before .before .before .before .before .before in
     let j = jobOf (s .args .words .now) in
-    rw (← ending-is (length (now (s .args .out))) j (grid-is j (more-columns (s .pre .0 .known) (s .pre .1))) (c .before .before .before .before .before .solve-grid .ensures)) (c .before .before .on-ending .ensures)
+    rw (← ending-is (length (now (s .args .out))) j (grid-is j (more-columns (s .pre .0 .known) (s .pre .1))) (c .before .before .before .before .before .solve-grid .ensures .0) (c .before .before .before .before .before .solve-grid .ensures .3)) (c .before .before .on-ending .ensures)
 
 pub propose-grid-spec : {M : Type 1} → statement M
 propose-grid-spec =

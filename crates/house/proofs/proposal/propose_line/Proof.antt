@@ -1,8 +1,9 @@
--- Zeros are lent for the line's factor, and its ending and values are the job's.
+-- Nothing is lent for the line's factor, and its ending and values are the job's.
 use mathlib.Core.Path.{refl}
+use native.Mathlib.Omega.{arith}
 use denote.Ref.{now}
 use lib.Ieee.{ofBits}
-use lib.ListN.{length}
+use lib.ListN.{length, length-take}
 use Rattle.jobs.specs.Words.{jobOf}
 use Rattle.house.proofs.Shaped.{one-column}
 use Rattle.house.proofs.Solving.{line-is}
@@ -11,21 +12,32 @@ use borrow.Author.Needs.{needs}
 use Rattle.house.proofs.proposal.propose_line.Statement.{statement}
 use Rattle.house.proofs.proposal.propose_line.Tie as tie
 
-cells-of-requires : tie.Need-cells-of-requires
-cells-of-requires c κs = search needs
-
-starts-of-requires : tie.Need-starts-of-requires
-starts-of-requires c κs = search needs
-
 right-requires : tie.Need-right-requires
 unfolding ofBits
-right-requires c κs = (c .before .before .before .before .pre .0, refl)
+right-requires c κs = (c .before .before .pre .0, refl)
+
+sub-solve-line : tie.Need-sub-solve-line
+sub-solve-line c = search needs
+
+part-none-start : tie.Need-part-none-start
+part-none-start c = search needs
+
+part-none-end : tie.Need-part-none-end
+part-none-end c = search needs
+
+sub-solve-line-2 : tie.Need-sub-solve-line-2
+sub-solve-line-2 c = search needs
+
+part-neither-start : tie.Need-part-neither-start
+part-neither-start c = search needs
+
+part-neither-end : tie.Need-part-neither-end
+part-neither-end c = search needs
 
 solve-line-requires : tie.Need-solve-line-requires
-unfolding ofBits
 solve-line-requires c κs =
-    let s = c .before .before .before .before .before .before .before .before .before in
-    (s .pre .0, s .pre .2, rw (← c .before .before .before .before .before .before .before .cells-of .ensures) (c .before .before .before .before .before .before .starts-of .ensures), refl, refl, c .before .before .before .before .right .ensures)
+    let s = c .before .before .before .before .before .before in
+    (s .pre .0, s .pre .2, c .before .before .before .right .ensures, simp length-take (omega arith), simp length-take (omega arith))
 
 on-ending-requires : tie.Need-on-ending-requires
 on-ending-requires c κs = search needs
@@ -35,17 +47,22 @@ same-length c = search needs
 
 returns : tie.Need-returns
 returns c =
-    let s = c .before .before .before .before .before .before .before .before .before .before .before .before .before .before .before in
+    let s = c .before .before .before .before .before .before .before .before .before .before .before .before .before .before in
     let j = jobOf (s .args .words .now) in
-    rw (← ending-is (length (now (s .args .out))) j (line-is j (one-column (s .pre .0) (s .pre .1))) (c .before .before .before .before .before .solve-line .ensures)) (c .before .before .on-ending .ensures)
+    let solved = c .before .before .before .before .before .before .before .solve-line .ensures in
+    rw (← ending-is (length (now (s .args .out))) j (line-is j (one-column (s .pre .0) (s .pre .1))) (solved .0) (solved .3)) (c .before .before .on-ending .ensures)
 
 pub propose-line-spec : {M : Type 1} → statement M
 propose-line-spec =
     tie.close
     (tie.spec
-    cells-of-requires
-    starts-of-requires
     right-requires
+    sub-solve-line
+    part-none-start
+    part-none-end
+    sub-solve-line-2
+    part-neither-start
+    part-neither-end
     solve-line-requires
     on-ending-requires
     same-length

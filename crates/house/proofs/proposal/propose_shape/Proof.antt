@@ -11,27 +11,16 @@ use Rattle.house.proofs.proposal.propose_shape.Tie as tie
 order-of-requires : tie.Need-order-of-requires
 order-of-requires c κs = search needs
 
-propose-low-line-requires : tie.Need-propose-low-line-requires
-propose-low-line-requires c κs =
-    let s = c .before .before .before .before .before in
-    (s .pre .0, sym (s .pre .1) ∙ c .before .before .if1 .taken, c .before .before .before .order-of .ensures)
+propose-line-requires : tie.Need-propose-line-requires
+propose-line-requires c κs =
+    let s = c .before .before .before .before in
+    (s .pre .0, sym (s .pre .1) ∙ c .before .if1 .taken, c .before .before .order-of .ensures)
 
 same-length : tie.Need-same-length
 same-length c = search needs
 
 returns : tie.Need-returns
 returns c = search needs
-
-propose-line-requires : tie.Need-propose-line-requires
-propose-line-requires c κs =
-    let s = c .before .before .before .before .before in
-    (s .pre .0, sym (s .pre .1) ∙ c .before .before .if1 .taken, c .before .before .before .order-of .ensures)
-
-same-length-2 : tie.Need-same-length-2
-same-length-2 c = search needs
-
-returns-2 : tie.Need-returns-2
-returns-2 c = search needs
 
 mul-z : tie.Need-mul-z
 mul-z c =
@@ -45,38 +34,35 @@ propose-small-grid-requires c κs =
     let s = c .before .before .before .before .before in
     (record { known = s .pre .0; columns-few = omega (arith, s .pre .1, s .pre .2); reach-is = ap₂ _*_ (c .before .before .before .order-of .ensures) (s .pre .1) }, λ e. c .before .before .if1 .left (s .pre .1 ∙ e))
 
-same-length-3 : tie.Need-same-length-3
-same-length-3 c = search needs
+same-length-2 : tie.Need-same-length-2
+same-length-2 c = search needs
 
-returns-3 : tie.Need-returns-3
-returns-3 c = search needs
+returns-2 : tie.Need-returns-2
+returns-2 c = search needs
 
 propose-grid-requires : tie.Need-propose-grid-requires
 propose-grid-requires c κs =
     let s = c .before .before .before .before .before in
     (record { known = s .pre .0; columns-few = omega (arith, s .pre .1, s .pre .2); reach-is = ap₂ _*_ (c .before .before .before .order-of .ensures) (s .pre .1) }, λ e. c .before .before .if1 .left (s .pre .1 ∙ e))
 
-same-length-4 : tie.Need-same-length-4
-same-length-4 c = search needs
+same-length-3 : tie.Need-same-length-3
+same-length-3 c = search needs
 
-returns-4 : tie.Need-returns-4
-returns-4 c = search needs
+returns-3 : tie.Need-returns-3
+returns-3 c = search needs
 
 pub propose-shape-spec : {M : Type 1} → statement M
 propose-shape-spec =
     tie.close
     (tie.spec
     order-of-requires
-    propose-low-line-requires
+    propose-line-requires
     same-length
     returns
-    propose-line-requires
-    same-length-2
-    returns-2
     mul-z
     propose-small-grid-requires
-    same-length-3
-    returns-3
+    same-length-2
+    returns-2
     propose-grid-requires
-    same-length-4
-    returns-4)
+    same-length-3
+    returns-3)

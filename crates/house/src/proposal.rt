@@ -20,12 +20,12 @@ use packs::Outcome;
 ghost use mathlib.Core.Path.{_≡_};
 ghost use Prim.Native.Nat.{_≤_, _<_};
 ghost use lib.Ieee.{nan};
-ghost use lib.ListN.{length, getD};
+ghost use lib.ListN.{length, getD, replicate};
 ghost use Rattle.packs.specs.Writing.{Leaves};
 ghost use Rattle.jobs.specs.Words.{jobOf, cellsOf, columnsOf, orderOf};
 ghost use Rattle.house.specs.Known.{Known};
 ghost use Rattle.house.specs.Filled.{filled};
-ghost use Rattle.house.specs.Band.{rightOf};
+ghost use Rattle.house.specs.Band.{zero64};
 ghost use Rattle.house.specs.Held.{Narrow};
 ghost use Rattle.house.specs.Proposal.{solvedOf, valueOf, writtenOf, onEnding, proposedOf, proposeOf};
 
@@ -78,26 +78,28 @@ fn on_ending(ending: Ending, words: &[i64], v: &[f64; CELLS], out: &mut [u8]) ->
     }
 }
 
-// The proposal for a line, from its right side; its factor is not kept.
+// The proposal for a line, made in a list of zeros; its factor is not kept.
 fn propose_line(words: &[i64], z: usize, v: &mut [f64; CELLS], out: &mut [u8]) -> Outcome
-    requires { ⌜ Known (now words) × (columnsOf (now words) ≡ 1) × (z ≡ orderOf (now words)) × (now v ≡ rightOf (jobOf (now words))) ⌝ }
+    requires { ⌜ Known (now words) × (columnsOf (now words) ≡ 1) × (z ≡ orderOf (now words)) × (now v ≡ replicate 120 zero64) ⌝ }
     ensures { λ r. ⌜ Leaves (onEnding (length (now (out .entry))) (jobOf (now (words .entry))) (solvedOf (jobOf (now (words .entry))) .values) (solvedOf (jobOf (now (words .entry))) .ending)) (now (out .entry)) r (now (out .exit)) ⌝ }
 {
+    right(words, v);
     let mut none = [0.0; 1];
     let mut neither = [0.0; 1];
     let ending = solve_line(words, z, v, &mut none[0..0], &mut neither[0..0]);
     on_ending(ending, words, v, out)
 }
 
-// The proposal for a grid, from its right side, with room for its factor.
+// The proposal for a grid, made in a list of zeros, with room for its factor.
 fn propose_grid(words: &[i64], z: usize, v: &mut [f64; CELLS], out: &mut [u8]) -> Outcome
-    requires { ⌜ Narrow (now words) z × (columnsOf (now words) ≡ 1 → ⊥) × (now v ≡ rightOf (jobOf (now words))) ⌝ }
+    requires { ⌜ Narrow (now words) z × (columnsOf (now words) ≡ 1 → ⊥) × (now v ≡ replicate 120 zero64) ⌝ }
     ensures { λ r. ⌜ Leaves (onEnding (length (now (out .entry))) (jobOf (now (words .entry))) (solvedOf (jobOf (now (words .entry))) .values) (solvedOf (jobOf (now (words .entry))) .ending)) (now (out .entry)) r (now (out .exit)) ⌝ }
 {
     let n = cells_of(words);
     let starts = starts_of(n, z);
     let mut d = [0.0; CELLS];
     let mut l = [0.0; GRID_PLACES];
+    right(words, v);
     let ending = solve_grid(words, z, &starts, &mut d, &mut l, v);
     on_ending(ending, words, v, out)
 }
@@ -105,7 +107,7 @@ fn propose_grid(words: &[i64], z: usize, v: &mut [f64; CELLS], out: &mut [u8]) -
 // The same of a grid of a small reach. A function that is called from one place only is compiled into its caller, with its room on the stack; with this,
 // the one that needs a grid's room is called from two places, and a line does not pay for it.
 fn propose_small_grid(words: &[i64], z: usize, v: &mut [f64; CELLS], out: &mut [u8]) -> Outcome
-    requires { ⌜ Narrow (now words) z × (columnsOf (now words) ≡ 1 → ⊥) × (now v ≡ rightOf (jobOf (now words))) ⌝ }
+    requires { ⌜ Narrow (now words) z × (columnsOf (now words) ≡ 1 → ⊥) × (now v ≡ replicate 120 zero64) ⌝ }
     ensures { λ r. ⌜ Leaves (onEnding (length (now (out .entry))) (jobOf (now (words .entry))) (solvedOf (jobOf (now (words .entry))) .values) (solvedOf (jobOf (now (words .entry))) .ending)) (now (out .entry)) r (now (out .exit)) ⌝ }
 {
     propose_grid(words, z, v, out)
@@ -117,7 +119,6 @@ fn propose_shape(words: &[i64], columns: usize, out: &mut [u8]) -> Outcome
     ensures { λ r. ⌜ Leaves (onEnding (length (now (out .entry))) (jobOf (now (words .entry))) (solvedOf (jobOf (now (words .entry))) .values) (solvedOf (jobOf (now (words .entry))) .ending)) (now (out .entry)) r (now (out .exit)) ⌝ }
 {
     let mut v = [0.0; CELLS];
-    right(words, &mut v);
     let order = order_of(words);
     if columns == 1 {
         return propose_line(words, order, &mut v, out);

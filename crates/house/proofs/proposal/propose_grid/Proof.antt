@@ -23,21 +23,24 @@ starts-of-requires c κs =
     let k = s .pre .0 .known in
     (omega (arith, c .cells-of .ensures, cells-few k), omega (arith, s .pre .0 .reach-is, reach-few k (s .pre .0 .columns-few)))
 
+right-requires : tie.Need-right-requires
+right-requires c κs = let s = c .before .before .before .before in (s .pre .0 .known, s .pre .2)
+
 solve-grid-requires : tie.Need-solve-grid-requires
 unfolding ofBits
 solve-grid-requires c κs =
-    let s = c .before .before .before .before .before .before .before in
-    (s .pre .0, rw (← c .before .before .before .before .before .cells-of .ensures) (c .before .before .before .before .starts-of .ensures), refl, refl, s .pre .2)
+    let s = c .before .before .before .before .before .before .before .before .before in
+    (s .pre .0, rw (← c .before .before .before .before .before .before .before .cells-of .ensures) (c .before .before .before .before .before .before .starts-of .ensures), refl, refl, c .before .before .before .before .right .ensures)
 
 on-ending-requires : tie.Need-on-ending-requires
-on-ending-requires c κs = c .before .before .before .before .before .before .before .before .before .before .pre .0 .known
+on-ending-requires c κs = c .before .before .before .before .before .before .before .before .before .before .before .before .pre .0 .known
 
 same-length : tie.Need-same-length
 same-length c = search needs
 
 returns : tie.Need-returns
 returns c =
-    let s = c .before .before .before .before .before .before .before .before .before .before .before .before .before in
+    let s = c .before .before .before .before .before .before .before .before .before .before .before .before .before .before .before in
     let j = jobOf (s .args .words .now) in
     let solved = c .before .before .before .before .before .solve-grid .ensures in
     rw (← ending-is (length (now (s .args .out))) j (grid-is j (more-columns (s .pre .0 .known) (s .pre .1))) (solved .0) (solved .3)) (c .before .before .on-ending .ensures)
@@ -48,6 +51,7 @@ propose-grid-spec =
     (tie.spec
     cells-of-requires
     starts-of-requires
+    right-requires
     solve-grid-requires
     on-ending-requires
     same-length

@@ -10,6 +10,9 @@ use borrow.Author.Needs.{needs}
 use Rattle.house.proofs.proposal.propose_line.Statement.{statement}
 use Rattle.house.proofs.proposal.propose_line.Tie as tie
 
+right-requires : tie.Need-right-requires
+right-requires c κs = let s = c .before .before in (s .pre .0, s .pre .3)
+
 sub-solve-line : tie.Need-sub-solve-line
 sub-solve-line c = search needs
 
@@ -29,7 +32,7 @@ part-neither-end : tie.Need-part-neither-end
 part-neither-end c = search needs
 
 solve-line-requires : tie.Need-solve-line-requires
-solve-line-requires c κs = let s = c .before .before .before .before in (s .pre .0, s .pre .2, s .pre .3, simp length-take (omega arith), simp length-take (omega arith))
+solve-line-requires c κs = let s = c .before .before .before .before .before .before in (s .pre .0, s .pre .2, c .before .before .before .right .ensures, simp length-take (omega arith), simp length-take (omega arith))
 
 on-ending-requires : tie.Need-on-ending-requires
 on-ending-requires c κs = search needs
@@ -39,7 +42,7 @@ same-length c = search needs
 
 returns : tie.Need-returns
 returns c =
-    let s = c .before .before .before .before .before .before .before .before .before .before .before .before in
+    let s = c .before .before .before .before .before .before .before .before .before .before .before .before .before .before in
     let j = jobOf (s .args .words .now) in
     let solved = c .before .before .before .before .before .before .before .solve-line .ensures in
     rw (← ending-is (length (now (s .args .out))) j (line-is j (one-column (s .pre .0) (s .pre .1))) (solved .0) (solved .3)) (c .before .before .on-ending .ensures)
@@ -48,6 +51,7 @@ pub propose-line-spec : {M : Type 1} → statement M
 propose-line-spec =
     tie.close
     (tie.spec
+    right-requires
     sub-solve-line
     part-none-start
     part-none-end

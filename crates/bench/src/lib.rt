@@ -1,5 +1,7 @@
 // The C boundary: the thirteen calls of the portal. Each tests its answer slice before all else and hands what it is lent to a proved function; none asks
 // its caller to have tested anything.
+#![tactic(auto)]
+
 mod answers;
 pub mod comma;
 pub mod keeping;

@@ -4,6 +4,8 @@
 // A case is a kind, two sizes of two bytes each, low byte first, and its packs. A house proposal (kind 0) has the size of the job pack, the room for
 // the proposal, and the job pack; its line is number, place and the bytes written. A check (kind 1) has the sizes of both packs, the job pack and the
 // proposal pack; its line is number, place, F and G.
+#![tactic(auto)]
+
 ghost use Rattle.std.specs.Prelude.{◌≡◌, ◌≤◌, ◌<◌, length};
 
 use house::proposal::propose;

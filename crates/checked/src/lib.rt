@@ -1,11 +1,13 @@
 // What a call answers, and what a check has read of two packs: their counts and numbers, in the words that were lent to it.
+#![tactic(auto)]
+
 ghost use Rattle.std.specs.Prelude.{◌≡◌, ◌≤◌, ◌<◌, length};
 ghost use Rattle.jobs.specs.Words.{count_at};
 
 use numbers::zigzag::size_of;
 
 // What a call answers: number, place, F and G.
-#[derive(Drop)]
+#[derive(Clone, Copy)]
 pub struct Answer {
     pub number: u64,
     pub place: u64,

@@ -1,5 +1,7 @@
 // The checking program (document 01, "The checking program"): standard input to one line on standard output. It only reads and writes; the line is
 // the crate `line`'s.
+#![tactic(auto)]
+
 use libc::{STDIN_FILENO, STDOUT_FILENO};
 
 // One byte more than an input may have, so that a longer one shows.

@@ -1,1 +1,2 @@
 // No code: what is promised of the bench, and why it holds.
+#![tactic(auto)]

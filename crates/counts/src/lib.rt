@@ -1,5 +1,7 @@
 // The leading row of a shelf (document 02, W-209): which counts of slots are allowed, where a society's span starts and how many slots it has, and
 // clearing.
+#![tactic(auto)]
+
 ghost use Rattle.std.specs.Prelude.{◌≡◌, ◌+◌, ◌*◌, ◌<◌, ◌≤◌, length, drop};
 ghost use Rattle.slots.specs.Slots.{slot_words};
 ghost use Rattle.counts.specs.declared.Row.TheVariants.{Right};
@@ -20,21 +22,21 @@ const ALL_SLOTS: usize = 32;
 const SHELF_WORDS: usize = 9192;
 
 // Whether a row of counts is allowed: it is, or it is wrong at a place.
-#[derive(Drop)]
+#[derive(Clone, Copy)]
 pub enum Row {
     Right,
     Wrong(usize),
 }
 
 // Whether a call on a shelf may go on: it may, or it is refused with a number and a place.
-#[derive(Drop)]
+#[derive(Clone, Copy)]
 pub enum Tested {
     Passed,
     Refused(u64, u64),
 }
 
 // Where a society's span starts and ends, and how many slots it has.
-#[derive(Drop)]
+#[derive(Clone, Copy)]
 pub struct Span {
     pub start: usize,
     pub end: usize,

@@ -3,7 +3,7 @@ ghost use Rattle.std.specs.Prelude.{◌≡◌, ◌≤◌};
 ghost use Rattle.decimals.specs.Whole.{largest, digit_after, leading_zero, whole_of};
 
 // What a field stands for: a number, or none.
-#[derive(Drop)]
+#[derive(Clone, Copy)]
 pub enum Whole {
     Number(u64),
     Malformed,

@@ -1,5 +1,7 @@
 // The factor of a band and the solve with it, for any width: document 01's steps ("The house proposal"), each operation rounded once and in that
 // document's order. The multipliers of all rows stand in one slice, row after row, so a line's and a grid's run through the same loops.
+#![tactic(auto)]
+
 ghost use Rattle.std.specs.Prelude.{◌≡◌, ◌+◌, ◌-◌, ◌≤◌, ◌<◌, length, get_or};
 ghost use Rattle.std.proofs.lemmas.List.Edits.{sets};
 ghost use Rattle.factor.specs.Factor.{less_by, lowest, product_of, row_from, no_multipliers, judged, value_of, factor_step};
@@ -14,14 +16,14 @@ pub const CELLS: usize = 120;
 pub const STARTS: usize = 121;
 
 // What a step answers of its pivot.
-#[derive(Drop)]
+#[derive(Clone, Copy)]
 pub enum Pivot {
     Accepted(f64),
     Thin(f64),
 }
 
 // How the factoring ends: with every row, or thin at a cell, with the pivot that failed.
-#[derive(Drop)]
+#[derive(Clone, Copy)]
 pub enum Ending {
     Whole,
     Thin(usize, f64),

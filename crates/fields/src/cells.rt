@@ -7,7 +7,7 @@ use crate::{Field, Step};
 
 // The cell that a walk stands in: of how many; what a row is, 8 times its columns and its order across; what is wanted, 8 times the rows with enough
 // positive weights and the weights that the cell's own row lacks; and its column.
-#[derive(Drop)]
+#[derive(Clone, Copy)]
 pub struct Cells {
     pub n: u64,
     pub row: u64,

@@ -1,5 +1,7 @@
 // The fields of a pack, one after another (document 01, "Packs", "Numbers allowed", "Order"): what each number may be, what comes after it, and
 // which refusal it can bring. The reader and the writer both walk along this table, so that they cannot disagree.
+#![tactic(auto)]
+
 pub mod cells;
 pub mod limits;
 pub mod links;
@@ -18,7 +20,7 @@ use crate::proposal::{after_multiplier, after_value};
 use crate::shape::{after_across, after_columns, after_down, after_order};
 
 // The field whose number comes next, with what the numbers before it fix.
-#[derive(Drop)]
+#[derive(Clone, Copy)]
 pub enum Field {
     Society,
     Job,
@@ -46,7 +48,7 @@ pub enum Field {
 }
 
 // What a number does: another field follows, the number is not allowed, or another refusal with its number and place.
-#[derive(Drop)]
+#[derive(Clone, Copy)]
 pub enum Step {
     Next(Field),
     NotAllowed,

@@ -7,7 +7,7 @@ use crate::{Field, Step};
 
 // The link that a walk stands in: of how many, over how many cells; the terms that are left of it, and the least cell that the next may name (0 after one that does
 // not rise).
-#[derive(Drop)]
+#[derive(Clone, Copy)]
 pub struct Links {
     pub n: u64,
     pub links: u64,

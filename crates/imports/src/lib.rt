@@ -1,4 +1,6 @@
 // A claims list made into a job pack without links (document 02, W-201): the list gives the cells, the caller all else.
+#![tactic(auto)]
+
 ghost use Rattle.std.specs.Prelude.{◌≤◌, ◌<◌, length, take};
 ghost use Rattle.packs.specs.Writing.{roomed, Leaves};
 ghost use Rattle.jobs.specs.Packs.{write_job};
@@ -13,7 +15,7 @@ use lists::reading::read_list;
 use packs::Outcome;
 
 // What the caller gives beside the list.
-#[derive(Drop)]
+#[derive(Clone, Copy)]
 pub struct Given {
     pub divisor: u64,
     pub society: u64,

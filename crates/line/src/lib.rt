@@ -1,4 +1,6 @@
 // The line that the checking program prints for an input (document 01, "The checking program"). The program itself only reads and writes.
+#![tactic(auto)]
+
 ghost use Rattle.std.specs.Prelude.{◌≡◌, ◌≤◌, length};
 ghost use Rattle.numbers.specs.declared.plain.Number.TheVariants.{Value};
 ghost use Rattle.checked.specs.Checked.{checked_of};

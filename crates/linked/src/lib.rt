@@ -1,4 +1,6 @@
 // The house proposal that honours links (document 02, W-207): pass after pass the rounded proposal is checked, up to the first that is accepted.
+#![tactic(auto)]
+
 ghost use Rattle.std.specs.Prelude.{◌≤◌, length};
 ghost use Rattle.jobs.specs.Words.{job_of};
 ghost use Rattle.house.specs.Known.{Known};
@@ -18,7 +20,7 @@ pub mod search;
 const PASSES: u64 = 200;
 
 // What the house answers: a proposal of so many bytes after so many passes, or a refusal with a number and a place.
-#[derive(Drop)]
+#[derive(Clone, Copy)]
 pub enum Offer {
     Proposed { bytes: usize, passes: u64 },
     Refused { number: u64, place: usize },

@@ -9,14 +9,14 @@ use crate::cut::comma_in;
 use decimals::reading::{Whole, whole_of};
 
 // The numbers of a line: age, exposure and deaths; or age, 0 and rate.
-#[derive(Drop)]
+#[derive(Clone, Copy)]
 pub enum Fields {
     Numbers(u64, u64, u64),
     Bad,
 }
 
 // What a line comes to: its numbers, or the number of its fault.
-#[derive(Drop)]
+#[derive(Clone, Copy)]
 pub enum Line {
     Entry(u64, u64, u64),
     Fault(u64),

@@ -20,7 +20,7 @@ use jobs::words;
 use tally::{Tally, place_of};
 
 // What the check answers: the table is accepted with its loss and gap, or refused with a number and a place.
-#[derive(Drop)]
+#[derive(Clone, Copy)]
 pub enum Verdict {
     Accepted { loss: i64, gap: i64 },
     Refused { number: u64, place: usize },

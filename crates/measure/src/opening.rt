@@ -14,7 +14,7 @@ use jobs::words;
 use packs::Outcome;
 
 // Two packs that were read, with the counts of their words, or the refusal of the first that cannot be read.
-#[derive(Drop)]
+#[derive(Clone, Copy)]
 pub enum Opened {
     Both(usize, usize),
     Unread(u64, usize),

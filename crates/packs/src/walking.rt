@@ -11,14 +11,14 @@ use fields::{Field, Step};
 use numbers::plain::Number;
 
 // What comes next: a number with the offset after it, or nothing, with the number of the refusal for that.
-#[derive(Drop)]
+#[derive(Clone, Copy)]
 pub enum Found {
     Number(u64, usize),
     Nothing(u64),
 }
 
 // What stands next in a walk: a word to be kept with the field and the offset after it, the end, or a refusal.
-#[derive(Drop)]
+#[derive(Clone, Copy)]
 pub enum Move {
     Go(Field, i64, usize),
     Stop,

@@ -1,4 +1,6 @@
 // The constant table of signed difference rows (document 01, "Loss and gap"), read by the loss, the residuals and the house proposal's band.
+#![tactic(auto)]
+
 ghost use Rattle.std.specs.Prelude.{◌≤◌};
 ghost use Rattle.rows.specs.Rows.{IsRow};
 

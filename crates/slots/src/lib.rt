@@ -1,4 +1,6 @@
 // The slots of a society's span (document 01, "The shelf"; the words of one as W-203 has them): searches, and moves, from any words.
+#![tactic(auto)]
+
 pub mod moves;
 pub mod search;
 mod table;
@@ -14,7 +16,7 @@ pub const VALUES_END: usize = 127;
 const CELLS: u32 = 120;
 
 // The lowest slot that a search found.
-#[derive(Drop)]
+#[derive(Clone, Copy)]
 pub enum Slot {
     At(usize),
     Nowhere,

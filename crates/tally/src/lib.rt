@@ -1,5 +1,7 @@
 // The terms of a gap by their numbers, and their tally: the running total, which is settled once it passes the tolerance, the largest term and its place. It
 // knows no words of a job: those are `measure`'s.
+#![tactic(auto)]
+
 pub mod term;
 
 ghost use Rattle.std.specs.Prelude.{◌≡◌, negsuc};
@@ -7,7 +9,7 @@ ghost use Rattle.tally.specs.Given.{Settles, Tallies, Led};
 ghost use Rattle.tally.specs.Tally.{settled_of, tally_of, place_of};
 
 // The settled total of terms, the largest of them, and its place.
-#[derive(Drop)]
+#[derive(Clone, Copy)]
 pub struct Tally {
     pub total: i64,
     pub largest: i64,

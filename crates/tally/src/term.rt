@@ -5,7 +5,7 @@ ghost use Rattle.tally.specs.Supplied.{limit, lesser_of, supplied, amount_of};
 ghost use Rattle.tally.specs.Given.{Boxed, Squares, CellNumbers, LinkNumbers, Amount};
 
 // A cell term, and whether the box or the weight supplied it.
-#[derive(Drop)]
+#[derive(Clone, Copy)]
 pub enum Supplied {
     ByBox(i64),
     ByWeight(i64),

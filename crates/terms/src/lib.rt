@@ -1,5 +1,7 @@
 // The terms of the gap handed out (document 02, W-202): three words a place, the cells' first and then the links': the term, the residual (0 for a
 // link), and the side that supplied it (0 the box, 1 the weight, 2 a link).
+#![tactic(auto)]
+
 mod entries;
 mod listing;
 

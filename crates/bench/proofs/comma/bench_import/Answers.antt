@@ -1,0 +1,19 @@
+-- The pack is the import's; the answer is given where there is room for it.
+use Rattle.std.proofs.Common.{length, ap, ◌∙◌}
+use lib.Seq.{sets}
+use Rattle.imports.specs.Imports.{import_of}
+use Rattle.bench.specs.Calls.{given_of, outcome_of}
+use Rattle.bench.proofs.Endings.{without_room, with_room}
+use Rattle.bench.proofs.Listed.{import_small}
+use Rattle.bench.proofs.comma.bench_import.Goals as goal
+
+pub returns-then-answer-ne-ANSWER_WORDS : goal.returns-then-answer-ne-ANSWER_WORDS
+returns-then-answer-ne-ANSWER_WORDS c = let a = c.args in
+    let made = import_of (given_of a.divisor a.society a.job a.order a.constant a.tolerance a.floor a.ceiling) (length a.out.now) a.text.now in
+    without_room (outcome_of made.outcome) a.answer.now a.out.now (sets a.out.now 0 made.bytes) c.if-answer-ne-ANSWER_WORDS.true
+
+pub returns : goal.returns
+returns c = let a = c.args in
+    let made = import_of (given_of a.divisor a.society a.job a.order a.constant a.tolerance a.floor a.ceiling) (length a.out.now) a.text.now in
+    with_room (outcome_of made.outcome) a.answer.now a.out.now (sets a.out.now 0 made.bytes) (import_small (given_of a.divisor a.society a.job a.order a.constant a.tolerance a.floor a.ceiling) (length a.out.now) a.text.now) c.if-answer-ne-ANSWER_WORDS.false c.of_outcome.result
+    (c.of_outcome.ensures ∙ ap outcome_of c.import-outcome.ensures.0) c.give.ensures.0 c.give.ensures.1 c.import-outcome.ensures.1

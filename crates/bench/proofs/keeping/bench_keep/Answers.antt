@@ -1,0 +1,16 @@
+-- Keeping is the shelf's own; the answer is given where there is room for it.
+use Rattle.shelf.specs.Calls.{own, keep, after, said}
+use Rattle.bench.proofs.Endings.{without_room, with_room}
+use Rattle.bench.proofs.Shelves.{said_small}
+use Rattle.bench.proofs.keeping.bench_keep.Goals as goal
+
+pub returns-then-answer-ne-ANSWER_WORDS : goal.returns-then-answer-ne-ANSWER_WORDS
+returns-then-answer-ne-ANSWER_WORDS c = let a = c.args in
+    let call = own (keep a.job.now a.proposal.now) in
+    without_room (said a.shelf.now call).answer a.answer.now a.shelf.now (after a.shelf.now call) c.if-answer-ne-ANSWER_WORDS.true
+
+pub returns : goal.returns
+returns c = let a = c.args in
+    let call = own (keep a.job.now a.proposal.now) in
+    with_room (said a.shelf.now call).answer a.answer.now a.shelf.now (after a.shelf.now call) (said_small a.shelf.now call) c.if-answer-ne-ANSWER_WORDS.false c.keep-a.result
+    c.keep-a.ensures.0 c.give.ensures.0 c.give.ensures.1 c.keep-a.ensures.1

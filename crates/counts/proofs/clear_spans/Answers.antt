@@ -1,0 +1,29 @@
+-- The counts over the front, and zeros after them as far as their spans go.
+use mathlib.Core.Path.{refl}
+use Prim.Native.Nat.{◌+◌, ◌*◌}
+use native.Mathlib.Omega.{arith}
+use Rattle.counts.specs.Counts.{societies}
+use Rattle.slots.specs.Slots.{slot_words}
+use Rattle.counts.proofs.Tests.{right_allotted, counts_allotted}
+use Rattle.counts.proofs.Cleared.{cleared_is}
+use Rattle.counts.proofs.clear_spans.Goals as goal
+
+pub slots_below-slots-requires : goal.slots_below-slots-requires
+slots_below-slots-requires c = let row = c.args.counts.now in counts_allotted row c.requires.1 (right_allotted row c.requires.2) societies (omega arith)
+
+pub overflow_mul-e : goal.overflow_mul-e
+overflow_mul-e c = omega (arith, c.slots_below-slots.ensures, (right_allotted c.args.counts.now c.requires.2).total)
+
+pub overflow_add-e : goal.overflow_add-e
+overflow_add-e c = omega (arith, c.slots_below-slots.ensures, (right_allotted c.args.counts.now c.requires.2).total)
+
+pub slice_bounds-zero_words-end : goal.slice_bounds-zero_words-end
+slice_bounds-zero_words-end c = omega (arith, c.slots_below-slots.ensures, (right_allotted c.args.counts.now c.requires.2).total, c.copy_words.auto.0, c.requires.0)
+
+pub returns : goal.returns
+returns c = let row = c.args.counts.now in
+    let slots = c.slots_below-slots in
+    let copy = c.copy_words in
+    let zero = c.zero_words in
+    cleared_is row c.args.shelf.now copy.new.0 zero.new.0 slots.result (societies + slot_words * slots.result) c.requires.1 c.requires.0
+    (right_allotted row c.requires.2).total slots.ensures refl copy.ensures zero.ensures

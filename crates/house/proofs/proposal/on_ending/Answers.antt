@@ -1,0 +1,12 @@
+-- The ending of the factoring picks the case.
+use Rattle.std.proofs.Common.{length, sym, refl, ap}
+use Rattle.packs.specs.Writing.{Written}
+use Rattle.jobs.specs.Words.{job_of}
+use Rattle.house.specs.Proposal.{on_ending}
+use Rattle.house.proofs.proposal.on_ending.Goals as goal
+
+pub returns-in-Thin : goal.returns-in-Thin
+returns-in-Thin c = rw (← ap {B = Written} (on_ending (length c.args.out.now) (job_of c.args.words.now) c.args.v.now) (sym c.in-Thin.is)) (refl, refl)
+
+pub returns-in-Whole : goal.returns-in-Whole
+returns-in-Whole c = rw (← ap {B = Written} (on_ending (length c.args.out.now) (job_of c.args.words.now) c.args.v.now) (sym c.in-Whole.is)) c.write_values.ensures

@@ -1,0 +1,14 @@
+-- A grid that is too wide is refused.
+use Rattle.std.proofs.Common.{length, refl, arith}
+use Rattle.jobs.specs.Words.{job_of}
+use Rattle.house.proofs.Handing.{wide_refused, narrow_proposed}
+use Rattle.house.proofs.proposal.propose_for.Goals as goal
+
+pub returns-then-columns-gt-COLUMNS : goal.returns-then-columns-gt-COLUMNS
+returns-then-columns-gt-COLUMNS c = rw (← wide_refused (length c.args.out.now) (job_of c.args.words.now) (omega (arith, c.if-columns-gt-COLUMNS.true, c.columns_of-columns.ensures))) (refl, refl)
+
+pub propose_shape-requires : goal.propose_shape-requires
+propose_shape-requires c = (c.requires, c.columns_of-columns.ensures, omega (arith, c.if-columns-gt-COLUMNS.false))
+
+pub returns : goal.returns
+returns c = rw (← narrow_proposed (length c.args.out.now) (job_of c.args.words.now) (omega (arith, c.if-columns-gt-COLUMNS.false, c.columns_of-columns.ensures))) c.propose_shape.ensures

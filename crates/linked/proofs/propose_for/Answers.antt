@@ -1,0 +1,16 @@
+-- A grid that is too wide is refused.
+use mathlib.Core.Path.{refl}
+use native.Mathlib.Omega.{arith}
+use lib.ListN.{length}
+use Rattle.jobs.specs.Words.{job_of}
+use Rattle.linked.proofs.Answering.{wide_linked, narrow_linked}
+use Rattle.linked.proofs.propose_for.Goals as goal
+
+pub returns-then-columns-gt-COLUMNS : goal.returns-then-columns-gt-COLUMNS
+returns-then-columns-gt-COLUMNS c = rw (← wide_linked (length c.args.out.now) c.args.given (job_of c.args.words.now) (omega (arith, c.if-columns-gt-COLUMNS.true, c.columns_of-columns.ensures))) (refl, refl)
+
+pub search_shape-requires : goal.search_shape-requires
+search_shape-requires c = (c.requires.0, c.columns_of-columns.ensures, omega (arith, c.if-columns-gt-COLUMNS.false), c.requires.1)
+
+pub returns : goal.returns
+returns c = rw (← narrow_linked (length c.args.out.now) c.args.given (job_of c.args.words.now) (omega (arith, c.if-columns-gt-COLUMNS.false, c.columns_of-columns.ensures))) c.search_shape.ensures

@@ -1,0 +1,28 @@
+-- One direction after the other: the differences down, then those across. Whatever numbers of a job a call is handed, its ranges are found among theirs.
+use mathlib.Core.Path.{◌∙◌}
+use native.Mathlib.Omega.{arith}
+use Rattle.whole.proofs.Fits.{gives}
+use Rattle.measure.proofs.Directions.{both_added, both_rough, first_call, numbers_shaped, rough_fits, second_call, two_fit, two_is}
+use borrow.Author.Rules.{rules}
+use Rattle.measure.proofs.smooth.smoothed.Goals as goal
+
+pub smooth-down-requires : goal.smooth-down-requires
+smooth-down-requires c = let H = numbers_shaped c.requires c.order_of-z.ensures c.across_of-across.ensures c.columns_of-columns.ensures c.constant_of-k.ensures c.second_of-second.ensures in
+    first_call c.requires (search rules)
+
+pub smooth-along-requires : goal.smooth-along-requires
+smooth-along-requires c = let H = numbers_shaped c.requires c.order_of-z.ensures c.across_of-across.ensures c.columns_of-columns.ensures c.constant_of-k.ensures c.second_of-second.ensures in
+    second_call c.requires (smooth-requires c κs) c.smooth-down.ensures.1 (search rules)
+
+pub overflow_add-result : goal.overflow_add-result
+overflow_add-result c = let H = numbers_shaped c.requires c.order_of-z.ensures c.across_of-across.ensures c.columns_of-columns.ensures c.constant_of-k.ensures c.second_of-second.ensures in
+    two_fit (smooth-requires c c.lifetimes.1) (smooth-requires-2 c c.lifetimes.1) (omega arith) c.smooth-down.ensures.0 c.smooth-along.ensures.0
+
+pub returns : goal.returns
+returns c = let H = numbers_shaped c.requires c.order_of-z.ensures c.across_of-across.ensures c.columns_of-columns.ensures c.constant_of-k.ensures c.second_of-second.ensures in (
+      gives
+          (two_is (smooth-requires c c.lifetimes.1) (smooth-requires-2 c c.lifetimes.1) (omega arith) c.smooth-down.ensures.0 c.smooth-along.ensures.0
+          ∙ both_rough c.requires c.order_of-z.ensures c.across_of-across.ensures c.columns_of-columns.ensures c.constant_of-k.ensures c.second_of-second.ensures)
+          (rough_fits c.requires.given),
+      both_added c.requires c.order_of-z.ensures c.across_of-across.ensures c.columns_of-columns.ensures c.constant_of-k.ensures c.second_of-second.ensures c.smooth-down.ensures.1 c.smooth-along.ensures.1,
+    )

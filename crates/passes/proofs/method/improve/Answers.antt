@@ -1,0 +1,17 @@
+-- Each part is that of the definition.
+use lib.Ieee.{of_bits}
+use Rattle.passes.specs.OnWords.{link_at}
+use Rattle.passes.proofs.Passing.{improved_is}
+use Rattle.passes.proofs.method.improve.Goals as goal
+
+pub returns : goal.returns
+unfolding of_bits
+returns c = let a = c.args in
+    improved_is a.d.now a.l.now a.z a.n (link_at a.words.now a.s) a.y a.v.now
+    c.right_for-x.ensures
+    c.solve.ensures
+    c.sum_over-c.ensures
+    c.sum_over-sum.ensures
+    c.bound_at-b.ensures
+    c.raised-new.ensures
+    c.fall.ensures

@@ -1,0 +1,36 @@
+-- What the test of the shelf and the counts refuses is refused; else the counts become the row, and their spans zeros.
+use mathlib.Core.Path.{◌≡◌, sym, ap, ◌∙◌}
+use mathlib.Core.List.{List}
+use Prim.Native.Nat.{ℕ}
+use native.Mathlib.Omega.{arith}
+use lib.ListN.{length}
+use lib.Seq.{take_all}
+use Rattle.counts.specs.declared.Row.{Row}
+use Rattle.counts.specs.Counts.{societies, test_row, row_in, cleared}
+use Rattle.counts.proofs.Tests.{passed_both}
+use Rattle.checked.specs.declared.Answer.{Answer}
+use Rattle.checked.specs.Answers.{Reply}
+use Rattle.shelf.proofs.Answered.{clear_passed, clear_refused}
+use borrow.Author.Rules.{rules}
+use Rattle.shelf.proofs.clear.Goals as goal
+
+pub clear_spans-requires : goal.clear_spans-requires
+clear_spans-requires c = let a = c.args in
+    let counts = a.counts.now in
+    let eight : length counts ≡ societies = search rules in
+    let both = passed_both (row_in counts) a.shelf.now (sym c.test_clearing-tested.ensures ∙ c.in-Passed.is) in
+    (both.0, eight, ap {B = Row} test_row (sym (take_all societies counts (omega arith))) ∙ both.1)
+
+pub returns-in-Passed : goal.returns-in-Passed
+returns-in-Passed c = let a = c.args in
+    let shelf = a.shelf.now in
+    let counts = a.counts.now in
+    let eight : length counts ≡ societies = search rules in
+    let both = clear_passed shelf counts (sym c.test_clearing-tested.ensures ∙ c.in-Passed.is) in
+    (c.plain.ensures ∙ ap {B = Answer} (λ (r : Reply). r.answer) both.0, c.clear_spans.ensures ∙ ap (λ (x : List ℕ). cleared x shelf) (sym (take_all societies counts (omega arith))) ∙ both.1)
+
+pub returns-in-Refused : goal.returns-in-Refused
+returns-in-Refused c = let a = c.args in
+    let why = c.tested-1.given in
+    let both = clear_refused a.shelf.now a.counts.now why.0.0 why.0.1.0 (sym c.test_clearing-tested.ensures ∙ why.1) in
+    (c.plain-in-Refused.ensures ∙ ap {B = Answer} (λ (r : Reply). r.answer) both.0, both.1)

@@ -1,0 +1,29 @@
+-- What the test of the shelf refuses is refused; the others go to the society's own fetch.
+use mathlib.Core.Path.{refl, sym, ◌∙◌}
+use lib.ListN.{length}
+use Rattle.checked.specs.Answers.{refusal}
+use Rattle.counts.proofs.Tests.{passed_ready}
+use Rattle.shelf.specs.Shelf.{layout_in, fetch_reply}
+use Rattle.shelf.specs.Calls.{own, fetch, said}
+use Rattle.shelf.proofs.Picked.{replied}
+use Rattle.shelf.proofs.Answered.{said_passed, said_refused}
+use Rattle.shelf.proofs.fetch.Goals as goal
+
+pub fetch_pack-requires : goal.fetch_pack-requires
+fetch_pack-requires c = passed_ready _ (sym c.test_shelf-tested.ensures ∙ c.in-Passed.is)
+
+pub returns-in-Passed : goal.returns-in-Passed
+returns-in-Passed c = let got = c.fetch_pack in
+    let a = c.args in
+    let o = a.out.now in
+    let call = fetch a.job.now (length o) in
+    replied (fetch_reply (layout_in a.shelf.now) a.job.now (length o) a.shelf.now) (said a.shelf.now (own call)) got.result o got.new.1.1.0
+    (said_passed a.shelf.now call (sym c.test_shelf-tested.ensures ∙ c.in-Passed.is)) got.ensures.0 got.ensures.1
+
+pub returns-in-Refused : goal.returns-in-Refused
+returns-in-Refused c = let a = c.args in
+    let o = a.out.now in
+    let call = fetch a.job.now (length o) in
+    let why = c.tested-1.given in
+    replied (refusal why.0.0 why.0.1.0) (said a.shelf.now (own call)) c.plain.result o o
+    (said_refused a.shelf.now call why.0.0 why.0.1.0 (sym c.test_shelf-tested.ensures ∙ why.1)) c.plain.ensures refl

@@ -1,0 +1,51 @@
+-- The slot that was found is handed out.
+use mathlib.Core.Path.{refl, sym, ap, ◌∙◌}
+use Prim.Native.Nat.{ℕ, ◌*◌}
+use native.Mathlib.Omega.{arith}
+use lib.ListN.{length, drop}
+use Rattle.jobs.specs.Words.{job_of}
+use Rattle.jobs.proofs.Places.{cells_inside}
+use Rattle.slots.specs.Slots.{slot_words, has_job, lowest}
+use Rattle.checked.specs.Answers.{refusal}
+use Rattle.slots.specs.declared.Slot.{Slot}
+use Rattle.shelf.specs.Fetched.{fetch_at, fetch_in}
+use Rattle.slots.proofs.Sizes.{found_below}
+use Rattle.shelf.proofs.Picked.{replied, fetch_found, fetch_none}
+use Rattle.shelf.proofs.fetched.fetch_in.Goals as goal
+
+pub count_at-number-requires : goal.count_at-number-requires
+count_at-number-requires c = let p = c.requires.1 in (omega (arith, cells_inside p.1), omega (arith, p.0.number))
+
+pub overflow_cast-number : goal.overflow_cast-number
+overflow_cast-number c = record { fits = omega (arith, c.count_at-number.ensures, c.requires.1.0.number) }
+
+pub overflow_mul-at : goal.overflow_mul-at
+overflow_mul-at c = let a = c.args in
+    let number = c.count_at-number.result in
+    let below = found_below (has_job number) slot_words a.count a.span.now c.in-At.p (sym c.find_job-found.ensures ∙ c.in-At.is) in
+    omega arith
+
+pub fetch_at-requires : goal.fetch_at-requires
+fetch_at-requires c = let a = c.args in
+    let number = c.count_at-number.result in
+    let below = found_below (has_job number) slot_words a.count a.span.now c.in-At.p (sym c.find_job-found.ensures ∙ c.in-At.is) in
+    (omega arith, c.requires.1)
+
+pub returns-in-At : goal.returns-in-At
+returns-in-At c = let got = c.fetch_at in
+    let a = c.args in
+    let s = a.span.now in
+    let o = a.out.now in
+    let j = job_of a.words.now in
+    let p = c.in-At.p in
+    let e = sym (ap {B = Slot} (λ (x : ℕ). lowest (has_job x) slot_words a.count s) c.count_at-number.ensures) ∙ sym c.find_job-found.ensures ∙ c.in-At.is in
+    replied (fetch_at j (length o) (drop (slot_words * p) s)) (fetch_in slot_words a.count j (length o) s) got.result o got.new.1.1.1.0
+    (fetch_found slot_words a.count j s (length o) p e) got.ensures.0 got.ensures.1
+
+pub returns-in-Nowhere : goal.returns-in-Nowhere
+returns-in-Nowhere c = let a = c.args in
+    let s = a.span.now in
+    let o = a.out.now in
+    let j = job_of a.words.now in
+    let e = sym (ap {B = Slot} (λ (x : ℕ). lowest (has_job x) slot_words a.count s) c.count_at-number.ensures) ∙ sym c.find_job-found.ensures ∙ c.in-Nowhere.is in
+    replied (refusal 12 0) (fetch_in slot_words a.count j (length o) s) c.plain.result o o (fetch_none slot_words a.count j s (length o) e) c.plain.ensures refl

@@ -1,0 +1,36 @@
+-- The values are handed out where the verdict accepts them, and a refusal is the verdict's own.
+use mathlib.Core.Path.{refl, sym, ap, ap₂, ◌∙◌}
+use lib.IntN.{ℤ}
+use lib.ListN.{length}
+use mir.Facts.{to_z-of_z}
+use mir.Syntax.{w64}
+use mir.Val.{to_z, of_z}
+use Rattle.jobs.specs.Words.{job_of}
+use Rattle.measure.specs.declared.check.Verdict.{Verdict}
+use Rattle.measure.specs.declared.check.Verdict.TheVariants.{Accepted}
+use Rattle.checked.specs.Answers.{Reply, refusal}
+use Rattle.shelf.specs.Fetched.{kept_verdict, handed}
+use Rattle.shelf.proofs.Picked.{replied}
+use Rattle.shelf.proofs.kept.fetch_kept.Goals as goal
+
+pub returns-in-Accepted : goal.returns-in-Accepted
+returns-in-Accepted c = let a = c.args in
+    let o = a.out.now in
+    let v = a.values.now in
+    let told = c.verdict-1.given in
+    let known = c.in-Accepted.known_told-1-own.given in
+    let F = told.0.0 in
+    let G = told.0.1.0 in
+    let V-is = sym told.1 ∙ c.kept_verdict-verdict.ensures in
+    let f = to_z-of_z {w = w64} {z = F} (record { sfits = known.0.1 }) in
+    let g = to_z-of_z {w = w64} {z = G} (record { sfits = known.1.0.1 }) in
+    replied (handed (length o) v (Accepted (to_z w64 (of_z w64 F)) (to_z w64 (of_z w64 G)))) (handed (length o) v (kept_verdict (job_of a.words.now) v a.multipliers.now)) c.hand_out.result o c.hand_out.new.1.1.1.0
+    (ap₂ {C = Reply} (λ (x y : ℤ). handed (length o) v (Accepted x y)) f g ∙ ap {B = Reply} (λ (w : Verdict). handed (length o) v w) V-is) c.hand_out.ensures.0 c.hand_out.ensures.1
+
+pub returns-in-Refused : goal.returns-in-Refused
+returns-in-Refused c = let a = c.args in
+    let o = a.out.now in
+    let v = a.values.now in
+    let told = c.verdict-in-Refused-1.given in
+    replied (refusal told.0.0 told.0.1.0) (handed (length o) v (kept_verdict (job_of a.words.now) v a.multipliers.now)) c.plain.result o o
+    (ap {B = Reply} (λ (w : Verdict). handed (length o) v w) (sym told.1 ∙ c.kept_verdict-verdict.ensures)) c.plain.ensures refl

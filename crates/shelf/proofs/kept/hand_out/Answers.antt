@@ -1,0 +1,29 @@
+-- Room is tested last, and the values are copied whole.
+use mathlib.Core.Path.{refl, ap, ◌∙◌}
+use lib.IntN.{ℤ, nat_abs}
+use lib.ListN.{length}
+use mir.Facts.{to_z-of_z}
+use Rattle.measure.specs.declared.check.Verdict.TheVariants.{Accepted}
+use Rattle.checked.specs.Answers.{refusal}
+use Rattle.shelf.specs.Fetched.{handed}
+use Rattle.shelf.proofs.Picked.{replied}
+use Rattle.shelf.proofs.Judged.{hand_short, hand_given}
+use Rattle.shelf.proofs.kept.hand_out.Goals as goal
+
+pub returns-then-out-n : goal.returns-then-out-n
+returns-then-out-n c = let a = c.args in
+    let o = a.out.now in
+    let v = a.values.now in
+    replied (refusal 13 (length v)) (handed (length o) v (Accepted a.loss a.gap)) c.plain.result o o
+    (hand_short (length o) v a.loss a.gap c.if-out-n.true) c.plain.ensures refl
+
+pub returns : goal.returns
+returns c = let a = c.args in
+    let o = a.out.now in
+    let v = a.values.now in
+    let loss = c.size_of-f in
+    let gap = c.size_of-g in
+    let f = loss.ensures ∙ ap (λ (z : ℤ). nat_abs z) (to_z-of_z c.ranges.loss) in
+    let g = gap.ensures ∙ ap (λ (z : ℤ). nat_abs z) (to_z-of_z c.ranges.gap) in
+    replied (record { answer = record { number = 0; place = length v; loss = loss.result; gap = gap.result }; values = v }) (handed (length o) v (Accepted a.loss a.gap)) _ o c.copy_words.new.0
+    (hand_given (length o) v a.loss a.gap c.if-out-n.false loss.result gap.result f g) refl c.copy_words.ensures

@@ -1,0 +1,24 @@
+-- The table goes into the slot that was found; where none was, every slot moves down and it is the last.
+use mathlib.Core.Path.{sym, ◌∙◌}
+use native.Mathlib.Omega.{arith}
+use Rattle.slots.specs.Slots.{slot_words, slot_of}
+use Rattle.slots.proofs.Sizes.{for_below}
+use Rattle.shelf.proofs.Picked.{kept_at, kept_none}
+use Rattle.shelf.proofs.span.keep_in.Goals as goal
+
+pub put_at-requires : goal.put_at-requires
+put_at-requires c = let at = c.found-1.given in
+    let a = c.args in
+    let below = for_below slot_words a.count a.job a.span.now at.0.0 (sym c.slot_for-found.ensures ∙ at.1) in
+    (omega arith, c.requires.2, c.requires.3)
+
+pub returns-in-At : goal.returns-in-At
+returns-in-At c = let at = c.found-1.given in
+    let a = c.args in
+    c.put_at.ensures
+    ∙ kept_at slot_words a.count a.job a.span.now (slot_of slot_words a.job a.loss a.gap a.values.now a.multipliers.now) at.0.0 (sym c.slot_for-found.ensures ∙ at.1)
+
+pub returns-in-Nowhere : goal.returns-in-Nowhere
+returns-in-Nowhere c = let a = c.args in
+    c.push.ensures
+    ∙ kept_none slot_words a.count a.job a.span.now (slot_of slot_words a.job a.loss a.gap a.values.now a.multipliers.now) (sym c.slot_for-found.ensures ∙ c.in-Nowhere.is)

@@ -1,0 +1,7 @@
+-- The words, and then zeros.
+use lib.ListN.{length}
+use Rattle.slots.proofs.Stored.{padded_is}
+use Rattle.slots.proofs.table.put_padded.Goals as goal
+
+pub returns : goal.returns
+returns c = padded_is c.args.part.now c.args.words.now c.copy_words.new.0 c.zero_words.new.0 (length c.copy_words.new.0) c.requires c.copy_words.auto.0 c.copy_words.ensures c.zero_words.ensures

@@ -1,0 +1,26 @@
+-- What was read of both packs is what is listed.
+use mathlib.Core.Path.{sym, ◌∙◌}
+use lib.IntN.{pos}
+use lib.ListN.{replicate}
+use Rattle.jobs.specs.Packs.{read_job}
+use Rattle.measure.specs.Opening.{proposal_words}
+use Rattle.measure.proofs.Packed.{job_room, lent_length, parts_given, proposal_room}
+use Rattle.terms.proofs.Endings.{packs_listed, packs_unread}
+use Rattle.terms.proofs.list_terms.Goals as goal
+
+pub slice_bounds-list_parts-end : goal.slice_bounds-list_parts-end
+slice_bounds-list_parts-end c = lent_length 2092 (read_job c.args.job.now).words _ c.open_both-opened.ensures.1
+
+pub slice_bounds-list_parts-end-in-Both : goal.slice_bounds-list_parts-end-in-Both
+slice_bounds-list_parts-end-in-Both c = lent_length 280 (proposal_words c.args.job.now c.args.proposal.now) _ c.open_both-opened.ensures.2
+
+pub list_parts-requires : goal.list_parts-requires
+list_parts-requires c = let w = lent_length 2092 (read_job c.args.job.now).words c.open_both-opened.new.1.1.0 c.open_both-opened.ensures.1 in let v = lent_length 280 (proposal_words c.args.job.now c.args.proposal.now) c.open_both-opened.new.1.1.1.0 c.open_both-opened.ensures.2 in
+    (job_room c.args.job.now c.args.proposal.now (sym c.open_both-opened.ensures.0 ∙ c.in-Both.is) (sym w) (replicate 2092 (pos 0)) c.open_both-opened.ensures.1 (sym v) (replicate 280 (pos 0)) c.open_both-opened.ensures.2, proposal_room c.args.job.now c.args.proposal.now (sym c.open_both-opened.ensures.0 ∙ c.in-Both.is) (sym w) (replicate 2092 (pos 0)) c.open_both-opened.ensures.1 (sym v) (replicate 280 (pos 0)) c.open_both-opened.ensures.2, parts_given c.args.job.now c.args.proposal.now (sym c.open_both-opened.ensures.0 ∙ c.in-Both.is) (sym w) (replicate 2092 (pos 0)) c.open_both-opened.ensures.1 (sym v) (replicate 280 (pos 0)) c.open_both-opened.ensures.2)
+
+pub returns-in-Both : goal.returns-in-Both
+returns-in-Both c = let w = lent_length 2092 (read_job c.args.job.now).words c.open_both-opened.new.1.1.0 c.open_both-opened.ensures.1 in let v = lent_length 280 (proposal_words c.args.job.now c.args.proposal.now) c.open_both-opened.new.1.1.1.0 c.open_both-opened.ensures.2 in
+    packs_listed c.args.job.now c.args.proposal.now (sym c.open_both-opened.ensures.0 ∙ c.in-Both.is) (sym w) (replicate 2092 (pos 0)) c.open_both-opened.ensures.1 (sym v) (replicate 280 (pos 0)) c.open_both-opened.ensures.2 c.args.out.now c.list_parts.ensures
+
+pub returns-in-Unread : goal.returns-in-Unread
+returns-in-Unread c = packs_unread c.args.job.now c.args.proposal.now (sym c.open_both-opened.ensures.0 ∙ c.in-Unread.is) c.args.out.now

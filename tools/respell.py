@@ -84,6 +84,16 @@ def turned(text, names, comment):
     return "\n".join(out)
 
 
+def from_libraries(text):
+    """The names that a file has from the kit's libraries, which keep their spelling."""
+    found = set()
+    for path, names in re.findall(r"^(?:ghost )?use ([^{;\n]*)\{([^}]*)\}", text, re.M):
+        crate = re.match(r"Rattle\.(\w+)\.", path)
+        if not crate or not glob.glob("crates/" + crate.group(1)):
+            found |= {n.strip().split(" as ")[-1] for n in names.split(",")}
+    return found
+
+
 def texts():
     for p, comment in (("crates/*/specs/**/*.antt", "--"), ("crates/*/proofs/**/*.antt", "--"), ("crates/*/src/**/*.rt", "//")):
         for f in sorted(glob.glob(p, recursive=True)):
@@ -100,7 +110,8 @@ def main():
     changed = []
     for f, comment in texts():
         old = open(f, encoding="utf-8").read()
-        changed.append((f, old, turned(old, names, comment)))
+        theirs = from_libraries(old)
+        changed.append((f, old, turned(old, {a: b for a, b in names.items() if a not in theirs}, comment)))
     names = names | {n: n for n in found if n not in names}
     for f in ["README.md"] + sorted(glob.glob("docs/**/*.md", recursive=True)):
         old = open(f, encoding="utf-8").read()

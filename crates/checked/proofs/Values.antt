@@ -5,7 +5,7 @@ use Prim.Native.Nat.{ℕ, zero, suc, ◌+◌, ◌≤◌}
 use native.Mathlib.Omega.{arith}
 use lib.IntN.{ℤ, pos, nat_abs}
 use lib.ListN.{length, take, drop, get_or, replicate, length-replicate, length-drop}
-use lib.Seq.{sets, sets_eq, get_or-drop, take-append-le, drop-append-le}
+use lib.Seq.{sets, sets-eq, get_or-drop, take-append-le, drop-append-le}
 use lib.Dec.{lit<}
 use mir.Syntax.{w64}
 use mir.Val.{to_z, of_z}
@@ -53,7 +53,7 @@ module _ (m : ℕ) (ws : List ℤ) (room : length ws ≤ m) (scratch : List ℤ)
   long = length-replicate m (pos 0)
 
   in_front : scratch ≡ ws ++ drop (0 + length ws) (replicate m (pos 0))
-  in_front = stored ∙ sets_eq ws (replicate m (pos 0)) 0 (omega (arith, long))
+  in_front = stored ∙ sets-eq ws (replicate m (pos 0)) 0 (omega (arith, long))
 
   pub scratch_length : length scratch ≡ m
   scratch_length = sym (lent_length m ws scratch stored)

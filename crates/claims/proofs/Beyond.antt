@@ -8,7 +8,7 @@ use lib.Dec.{leb, ltb}
 use lib.IntN.{ℤ, nat_abs}
 use lib.Ieee.{Float}
 use lib.ListN.{length, drop, set}
-use lib.Seq.{sets, drop_drop, drop-append-add}
+use lib.Seq.{sets, drop-drop, drop-append-add}
 use Rattle.numbers.specs.Choice.{if◌then◌else◌}
 use Rattle.fields.specs.declared.Field.TheVariants.{Society}
 use Rattle.fields.specs.Table.{values_from}
@@ -57,7 +57,7 @@ pub beyond_values : (values out : List ℕ) (m : ℕ) → length values ≤ m �
 beyond_values values out m h =
     let e : length values + (m - length values) ≡ m = omega arith in
     ap (λ (k : ℕ). drop k (overwritten out values)) (sym e) ∙ drop-append-add values (drop (length values) out) (m - length values)
-    ∙ drop_drop (m - length values) (length values) out ∙ ap (λ (k : ℕ). drop k out) e
+    ∙ drop-drop (m - length values) (length values) out ∙ ap (λ (k : ℕ). drop k out) e
 
 -- ---- what is made is no longer than the place
 

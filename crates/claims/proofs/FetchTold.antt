@@ -8,7 +8,7 @@ use native.Mathlib.Omega.{arith}
 use borrow.Author.Tests.{eqb-true, ltb-false}
 use lib.Dec.{eqb, ltb}
 use lib.IntN.{ℤ, pos}
-use lib.ListN.{length, drop, get_or, length-drop, length-append, get_or_append}
+use lib.ListN.{length, drop, get_or, length-drop, length-append, get_or-append}
 use lib.Seq.{length-take-le}
 use Rattle.numbers.specs.Choice.{if◌then◌else◌}
 use Rattle.packs.specs.declared.Outcome.{Outcome}
@@ -107,7 +107,7 @@ module _ (job : List ℕ) (k : ℕ) (reads : (read_job job).outcome ≡ Done k) 
 
   value_packed : (i : ℕ) → i < j.cells → pos (get_or v i 0) ≡ values_in job pack i
   value_packed i h =
-      let at : word_at words i ≡ pos (get_or v i 0) = signed_at_lem (v ++ y) i ∙ ap pos (get_or_append v y 0 i (omega (arith, ev))) in
+      let at : word_at words i ≡ pos (get_or v i 0) = signed_at_lem (v ++ y) i ∙ ap pos (get_or-append v y 0 i (omega (arith, ev))) in
       sym (ap (λ (r : Ran). word_at r.words i) read_back ∙ at)
 
 -- ---- what is handed out, and what stands behind it
@@ -206,7 +206,7 @@ fetch_told shelf job out answered left n w l =
     told job g.proposal (job_in job).cells F G answered (w ∙ ap₂ (λ (a b : ℕ). a ∷ b ∷ F ∷ G ∷ []) n (h.place ∙ g.count)) h.accepted in
     let same : (i : ℕ) → i < (job_in job).cells → pos (get_or left i 0) ≡ values_in job g.proposal i = λ i k.
     ap (λ (xs : List ℕ). pos (get_or xs i 0)) (l ∙ ap (overwritten out) h.given)
-    ∙ ap pos (get_or_append g.kept (drop (length g.kept) out) 0 i (omega (arith, g.count))) ∙ g.values i k in
+    ∙ ap pos (get_or-append g.kept (drop (length g.kept) out) 0 i (omega (arith, g.count))) ∙ g.values i k in
     record {
       proposal = g.proposal;
       told = t;

@@ -9,8 +9,8 @@ use native.Mathlib.Omega.{arith}
 use borrow.Author.Tests.{ltb-false, eq-eqb}
 use lib.Dec.{eqb, ltb}
 use lib.IntN.{ℤ, pos, ◌+ℤ◌}
-use lib.ListN.{length, drop, get_or_append}
-use lib.Seq.{sets, sets_eq}
+use lib.ListN.{length, drop, get_or-append}
+use lib.Seq.{sets, sets-eq}
 use lib.Signed.{◌≤ℤ◌, ◌<ℤ◌}
 use Rattle.whole.specs.Sum.{sum}
 use Rattle.whole.proofs.Sums.{sum_cong, sum_ext}
@@ -91,7 +91,7 @@ module _ (room : ℕ) (job proposal : List ℕ) where
 
 stored_at : (ws out : List ℤ) (i : ℕ) → i < length ws → length ws ≤ length out → word_at (sets out 0 ws) i ≡ word_at ws i
 stored_at ws out i h k =
-    ap (λ (l : List ℤ). word_at l i) (sets_eq ws out 0 (omega (arith, k))) ∙ get_or_append ws (drop (0 + length ws) out) (pos 0) i h
+    ap (λ (l : List ℤ). word_at l i) (sets-eq ws out 0 (omega (arith, k))) ∙ get_or-append ws (drop (0 + length ws) out) (pos 0) i h
 
 sum_gap : (j : Job) (v y : ℕ → ℤ) → sum (j.cells + j.links) (term_at j v y) ≡ gap_of j v y
 unfolding gap_of

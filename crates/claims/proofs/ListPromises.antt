@@ -9,7 +9,7 @@ use borrow.Author.Tests.{ltb-false}
 use lib.Dec.{ltb}
 use lib.IntN.{ℤ}
 use lib.ListN.{length, take, drop}
-use lib.Seq.{sets, sets_eq, take_at}
+use lib.Seq.{sets, sets-eq, take_at}
 use Rattle.numbers.specs.Choice.{if◌then◌else◌}
 use Rattle.fields.specs.declared.Field.TheVariants.{Society}
 use Rattle.packs.specs.declared.Outcome.{Outcome}
@@ -48,7 +48,7 @@ whole_room room bytes n long = go (ltb room n) refl
 
 -- they stand in front of the output
 pub front : (bytes out : List ℕ) {n : ℕ} → length bytes ≡ n → n ≤ length out → take n (sets out 0 bytes) ≡ bytes
-front bytes out {n} e h = ap (take n) (sets_eq bytes out 0 (omega (arith, e, h))) ∙ take_at bytes (drop (0 + length bytes) out) n e
+front bytes out {n} e h = ap (take n) (sets-eq bytes out 0 (omega (arith, e, h))) ∙ take_at bytes (drop (0 + length bytes) out) n e
 
 -- ---- the import
 

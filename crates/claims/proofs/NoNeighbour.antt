@@ -10,7 +10,7 @@ use native.Mathlib.Omega.{arith}
 use lib.Dec.{eqb, leb}
 use lib.IntN.{ℤ, nat_abs}
 use lib.ListN.{length, replicate}
-use borrow.Author.Tests.{leb-true, eqb-true, eqb-false, ne_eqb, not_false, not_true}
+use borrow.Author.Tests.{leb-true, eqb-true, eqb-false, ne_eqb, not-false, not-true}
 use Rattle.packs.specs.declared.Outcome.{Outcome}
 use Rattle.packs.specs.declared.Outcome.TheVariants.{Done, Refused as Refuses}
 use Rattle.jobs.specs.Words.{job_of}
@@ -44,7 +44,7 @@ not_other s (some t) n = ap not n
 
 pub not_this : (s : ℕ) (o : Option ℕ) → is_not s o ≡ true → is s o ≡ false
 not_this s none n = refl
-not_this s (some t) n = not_true (eqb t s) n
+not_this s (some t) n = not-true (eqb t s) n
 
 is_other : (s t : ℕ) (o : Option ℕ) → is s o ≡ true → (t ≡ s → ⊥) → is t o ≡ false
 is_other s t none n d = refl
@@ -57,7 +57,7 @@ named_not s job proposal n e q = eqb-false (checked_of job proposal).society s (
 named_this : (s : ℕ) (job proposal : List ℕ) → is_not s (first_of (read_job job).words) ≡ false → accepted (checked_of job proposal).verdict ≡ true → (checked_of job proposal).society ≡ s
 named_this s job proposal n e =
     let t = (checked_of job proposal).society in
-    eqb-true t s (not_false (eqb t s) (sym (ap (is_not s) (accepted_named job proposal e)) ∙ n))
+    eqb-true t s (not-false (eqb t s) (sym (ap (is_not s) (accepted_named job proposal e)) ∙ n))
 
 -- ---- a call that does not name this society leaves its span
 module _ (row : List ℕ) (right : test_row row ≡ Right) (s : ℕ) (m : s ≤ 7) (xs : List ℕ) (len : length xs ≡ shelf_words) where
@@ -135,7 +135,7 @@ module _ (rx ry : List ℕ) (ex : test_row rx ≡ Right) (ey : test_row ry ≡ R
   laid_own : (call : Own) → is_not s (named_by call) ≡ false → s ≤ 7 → span_of lx' s (laid_after lx' xs call) ≡ span_of ly' s (laid_after ly' ys call)
   laid_own (keep job proposal) n m = keep_same (checked_of job proposal) (λ e. (accepted_sound job proposal e, named_this s job proposal n e)) m
   laid_own (fetch job room) n m = a m
-  laid_own (forget t job) n m = forget_same t job (eqb-true t s (not_false (eqb t s) n)) m
+  laid_own (forget t job) n m = forget_same t job (eqb-true t s (not-false (eqb t s) n)) m
 
   laid_told : (call : Own) → is s (named_by call) ≡ true → laid_said lx' xs call ≡ laid_said ly' ys call
   unfolding fetch_reply forgot_reply

@@ -4,7 +4,7 @@ use mathlib.Core.List.{List, ◌++◌, append_assoc}
 use Prim.Native.Nat.{ℕ, ◌+◌, ◌-◌, ◌*◌, ◌<◌, ◌≤◌}
 use native.Mathlib.Omega.{arith}
 use lib.ListN.{length, take, drop, replicate, length-append, length-drop, length-replicate, replicate-append-replicate}
-use lib.Seq.{length-take-le, take_at, drop_at, drop_drop, take-append-le, drop-append-le, drop-append-add}
+use lib.Seq.{length-take-le, take_at, drop_at, drop-drop, take-append-le, drop-append-le, drop-append-add}
 use borrow.Rule.Slice.PartMut.{put_mid, mid_of}
 use Rattle.slots.specs.Slots.{slot_words}
 use Rattle.slots.proofs.Stored.{put_next, mid_next}
@@ -77,4 +77,4 @@ cleared_is row xs a zs n e len long few en ee ea ez =
     ap (λ (x : List ℕ). length (mid_of societies k x)) front ∙ ap length (mid_next row rest societies len k) ∙ length-take-le k rest (rw length-drop (omega arith)) in
     ap (λ (m : ℕ). put_mid societies m a zs) size ∙ ap (λ (x : List ℕ). put_mid societies k x zs) front ∙ put_next row rest societies len k zs
     ∙ ap (λ (x : List ℕ). (row ++ x) ++ drop k rest) (ez ∙ ap (λ (m : ℕ). replicate (length (mid_of societies m a)) 0) size ∙ ap (λ (m : ℕ). replicate m 0) mid)
-    ∙ append_assoc row (replicate k 0) (drop k rest) ∙ ap (λ (x : List ℕ). row ++ (replicate k 0 ++ x)) (drop_drop k societies xs)
+    ∙ append_assoc row (replicate k 0) (drop k rest) ∙ ap (λ (x : List ℕ). row ++ (replicate k 0 ++ x)) (drop-drop k societies xs)

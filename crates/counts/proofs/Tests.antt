@@ -7,7 +7,7 @@ use Prim.Native.Nat.{ℕ, zero, suc, ◌+◌, ◌*◌, ◌<◌, ◌≤◌}
 use native.Mathlib.Omega.{arith}
 use lib.Dec.{eqb, leb, ltb}
 use lib.ListN.{length, drop, get_or}
-use lib.Seq.{length-take-le, take_all, get_or-take, drop_drop}
+use lib.Seq.{length-take-le, take_all, get_or-take, drop-drop}
 use borrow.Author.Tests.{le-leb, lt-leb, leb-true, leb-false, lt-ltb, le-ltb, ltb-false, eq-eqb, ne_eqb, eqb-true}
 use Rattle.slots.specs.declared.Slot.{Slot}
 use Rattle.slots.specs.declared.Slot.TheVariants.{At, Nowhere}
@@ -53,7 +53,7 @@ module _ (row : List ℕ) (at : ℕ) where
 -- ---- a search over slots of one word
 module _ (test : List ℕ → Bool) where
   later_word : (i : ℕ) (s : List ℕ) → test (drop (suc i) s) ≡ test (drop i (drop 1 s))
-  later_word i s = let e : 1 + i ≡ suc i = omega arith in ap test (ap (λ (k : ℕ). drop k s) (sym e) ∙ sym (drop_drop i 1 s))
+  later_word i s = let e : 1 + i ≡ suc i = omega arith in ap test (ap (λ (k : ℕ). drop k s) (sym e) ∙ sym (drop-drop i 1 s))
 
   abbrev Fails : (c : ℕ) (s : List ℕ) → Type 0
   Fails c s = (p : ℕ) → p < c → test (drop p s) ≡ false

@@ -2,7 +2,7 @@
 use Rattle.std.proofs.Common.{◌≡◌, ℕ, zero, suc, ◌+◌, ◌-◌, ◌≤◌, List, [], ◌∷◌, ◌++◌, length, take, drop, replicate, sym, refl, ap, ◌∙◌, arith}
 use lib.Ieee.{Float}
 use lib.ListN.{length-replicate}
-use lib.Seq.{sets, length-sets, sets_eq}
+use lib.Seq.{sets, length-sets, sets-eq}
 use Rattle.factor.specs.declared.Pivot.{Pivot}
 use Rattle.factor.specs.Factor.{Band, Made, lowest, start_of, judged, value_of, factor_step}
 use Rattle.factor.proofs.Turns.{value_judged, made_length}
@@ -23,7 +23,7 @@ blank_part n {count} {m} e h = let q : count - 0 ≡ m = omega arith in rw q (ta
 pub row_put : (n : ℕ) {ys zs : List Float} {count : ℕ} → ys ≡ zs → count ≡ length zs → length zs ≤ n → ys ++ drop (count - 0) (replicate n zero64) ≡ sets (replicate n zero64) 0 ys
 row_put n {ys} {zs} {count} ey e h =
     let q : count - 0 ≡ 0 + length ys = omega (arith, ap length ey) in
-    ap (λ (k : ℕ). ys ++ drop k (replicate n zero64)) q ∙ sym (sets_eq ys (replicate n zero64) 0 (rw (length-replicate n zero64) (omega (arith, ap length ey))))
+    ap (λ (k : ℕ). ys ++ drop k (replicate n zero64)) q ∙ sym (sets-eq ys (replicate n zero64) 0 (rw (length-replicate n zero64) (omega (arith, ap length ey))))
 
 take_front : (ys xs : List Float) → take (length ys) (ys ++ xs) ≡ ys
 take_front [] xs = refl
@@ -45,7 +45,7 @@ module _ (band : Band) (d l : List Float) (z j : ℕ) (few : z ≤ 4) {s : Step}
   own = made_length (band j) d l z j
 
   back : (ys : List Float) → length ys ≤ 4 → take (length ys) (sets (replicate 4 zero64) 0 ys) ≡ ys
-  back ys h = ap (take (length ys)) (sets_eq ys (replicate 4 zero64) 0 (omega arith)) ∙ take_front ys (drop (0 + length ys) (replicate 4 zero64))
+  back ys h = ap (take (length ys)) (sets-eq ys (replicate 4 zero64) 0 (omega arith)) ∙ take_front ys (drop (0 + length ys) (replicate 4 zero64))
 
   row : s.row.multipliers ≡ sets (replicate 4 zero64) 0 made.multipliers
   row = ap {B = List Float} (λ (s : Step). s.row.multipliers) e

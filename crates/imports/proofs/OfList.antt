@@ -7,7 +7,7 @@ use native.Mathlib.Omega.{arith}
 use borrow.Author.Tests.{leb-true, ne_eqb}
 use lib.Dec.{leb}
 use lib.IntN.{ℤ, pos, negsuc, nat_abs}
-use lib.ListN.{length, get_or, length-append, get_or_append}
+use lib.ListN.{length, get_or, length-append, get_or-append}
 use lib.Seq.{get_or-append-add}
 use Rattle.numbers.specs.Choice.{if◌then◌else◌}
 use Rattle.fields.specs.Table.{order_used, grid_field}
@@ -48,8 +48,8 @@ cell_at g (e ∷ es) (d ∷ ds) tail zero m s h l =
     let at : m + 4 * 0 ≡ m = omega arith in
     let long = length-append (cell_of g e d) (cells_of g es ds) in
     ap₂ (λ (ws : List ℤ) (n : ℕ). get_or (ws ++ tail) n (pos 0)) (cells_cons g e d es ds) at
-    ∙ get_or_append (cell_of g e d ++ cells_of g es ds) tail (pos 0) m (omega (arith, cell_length g e d))
-    ∙ get_or_append (cell_of g e d) (cells_of g es ds) (pos 0) m (omega (arith, cell_length g e d))
+    ∙ get_or-append (cell_of g e d ++ cells_of g es ds) tail (pos 0) m (omega (arith, cell_length g e d))
+    ∙ get_or-append (cell_of g e d) (cells_of g es ds) (pos 0) m (omega (arith, cell_length g e d))
 cell_at g (e ∷ es) (d ∷ ds) tail (suc i) m s h l =
     let at : m + 4 * suc i ≡ length (cell_of g e d) + (m + 4 * i) = omega (arith, cell_length g e d) in
     ap₂ (λ (ws : List ℤ) (n : ℕ). get_or ws n (pos 0)) (ap (λ (ws : List ℤ). ws ++ tail) (cells_cons g e d es ds) ∙ append_assoc (cell_of g e d) (cells_of g es ds) tail) at

@@ -5,7 +5,7 @@ use mathlib.Core.List.{List}
 use native.Mathlib.Omega.{arith}
 use lib.IntN.{ℤ, pos}
 use lib.ListN.{length, take, drop, replicate, length-replicate}
-use lib.Seq.{sets, sets_eq, length-sets, take_at}
+use lib.Seq.{sets, sets-eq, length-sets, take_at}
 use Rattle.packs.specs.declared.Outcome.TheVariants.{Done, Refused}
 use Rattle.fields.specs.declared.Field.TheVariants.{Society}
 use Rattle.packs.specs.Writing.{Written, refused, in_room, roomed}
@@ -22,7 +22,7 @@ module _ (l₀ : List ℤ) {room : ℕ} (long : length l₀ ≡ room) (ws : List
   held_room = omega (arith, ap length stored ∙ length-sets l₀ 0 ws ∙ long)
 
   pub held_part : take k l ≡ ws
-  held_part = ap (take k) (stored ∙ sets_eq ws l₀ 0 (omega (arith, long, count))) ∙ take_at ws (drop (0 + length ws) l₀) k count
+  held_part = ap (take k) (stored ∙ sets-eq ws l₀ 0 (omega (arith, long, count))) ∙ take_at ws (drop (0 + length ws) l₀) k count
 
 -- ---- a scratch of 2,092 words holds a job
 

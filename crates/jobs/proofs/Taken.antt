@@ -8,7 +8,7 @@ use native.Mathlib.Nat as N
 use native.Mathlib.Omega.{arith}
 use lib.IntN.{ℤ, pos, nat_abs}
 use lib.ListN.{length, drop, length-drop}
-use lib.Seq.{drop_drop, get_or-drop}
+use lib.Seq.{drop-drop, get_or-drop}
 use Rattle.numbers.specs.Zigzag.{signed_of}
 use Rattle.numbers.proofs.Clash.{clash}
 use Rattle.numbers.proofs.Signs.{signed_most}
@@ -58,7 +58,7 @@ first_of : (ws l : List ℤ) (p : ℕ) (a : ℤ) → drop p ws ≡ a ∷ l → w
 first_of ws l p a e = ap (word_at ws) (sym (N.add-zero p)) ∙ sym (get_or-drop p ws 0 (pos 0)) ∙ ap (λ (m : List ℤ). word_at m 0) e
 
 rest_of_lem : (ws l : List ℤ) (p : ℕ) (a : ℤ) → drop p ws ≡ a ∷ l → l ≡ drop (p + 1) ws
-rest_of_lem ws l p a e = sym (ap (drop 1) e) ∙ drop_drop 1 p ws
+rest_of_lem ws l p a e = sym (ap (drop 1) e) ∙ drop-drop 1 p ws
 
 taken_from_lem : (ws l : List ℤ) (p : ℕ) (f : Field) → end_at f ≡ false → drop p ws ≡ l → Steps f l → Taken ws f p
 taken_from_lem ws [] p End e q done = clash (cc)

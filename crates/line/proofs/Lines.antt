@@ -9,7 +9,7 @@ use borrow.Author.Tests.{lt-ltb, le-ltb}
 use lib.Dec.{ltb}
 use lib.IntN.{pos, nat_abs}
 use lib.ListN.{length, take, drop, replicate, length-drop}
-use lib.Seq.{sets, sets_eq, take_all}
+use lib.Seq.{sets, sets-eq, take_all}
 use Rattle.numbers.specs.Choice.{if◌then◌else◌}
 use Rattle.numbers.specs.declared.plain.Number.{Number}
 use Rattle.numbers.specs.declared.plain.Number.TheVariants.{Value, Unreadable}
@@ -66,7 +66,7 @@ pub line_put : (input bytes : List ℕ) {out after : List ℕ} {r : ℕ} → byt
 line_put input bytes {out} e h p =
     let few = lines_fit input in (
       omega (arith, p.next, ap length e),
-      p.stored ∙ ap (sets out 0) e ∙ sets_eq (line_of input) out 0 (omega arith) ∙ ap (λ (k : ℕ). line_of input ++ drop k out) (zero-add (length (line_of input))),
+      p.stored ∙ ap (sets out 0) e ∙ sets-eq (line_of input) out 0 (omega arith) ∙ ap (λ (k : ℕ). line_of input ++ drop k out) (zero-add (length (line_of input))),
     )
 
 -- ---- which line it is

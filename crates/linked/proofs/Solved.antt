@@ -7,7 +7,7 @@ use native.Mathlib.Omega.{arith}
 use lib.IntN.{ℤ}
 use lib.Ieee.{Float}
 use lib.ListN.{length, take, drop_of_length-le, take-append-drop}
-use lib.Seq.{sets, sets_eq}
+use lib.Seq.{sets, sets-eq}
 use Rattle.jobs.specs.Job.{Job}
 use Rattle.jobs.specs.Words.{cells_of, columns_of, order_of, job_of}
 use Rattle.factor.specs.declared.Ending.{Ending}
@@ -37,7 +37,7 @@ line_pivots j = pivots_length (rows_of (band_of j)) j.order j.cells 0 _ _
 front_whole : (room xs : List Float) → length xs ≡ length room → front room xs ≡ xs
 front_whole room xs e =
     let all : take (length room) xs ≡ xs = sym (append-nil (take (length room) xs)) ∙ ap (λ (r : List Float). take (length room) xs ++ r) (sym (drop_of_length-le xs {i = length room} (omega (arith, e)))) ∙ take-append-drop (length room) xs in
-    ap (sets room 0) all ∙ sets_eq xs room 0 (omega (arith, e)) ∙ ap (λ (r : List Float). xs ++ r) (drop_of_length-le room {i = 0 + length xs} (omega (arith, e))) ∙ append-nil xs
+    ap (sets room 0) all ∙ sets-eq xs room 0 (omega (arith, e)) ∙ ap (λ (r : List Float). xs ++ r) (drop_of_length-le room {i = 0 + length xs} (omega (arith, e))) ∙ append-nil xs
 
 -- so a line's factor does
 pub line_out : (j : Job) (d₀ l₀ : List Float) → length d₀ ≡ 120 → length l₀ ≡ 480 → {e : Ending} {d l v : List Float} → HandsOut (line_solved j) d₀ l₀ e d l v

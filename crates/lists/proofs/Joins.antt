@@ -8,7 +8,7 @@ use native.Mathlib.Omega.{arith}
 use borrow.Author.Tests.{ne_eqb, eqb-true, ltb-true, ltb-false}
 use lib.Dec.{eqb, ltb}
 use lib.ListN.{length, take, drop, length-drop, length-append, drop_of_length-le, take-append-drop}
-use lib.Seq.{take_at, take_all, drop_drop}
+use lib.Seq.{take_at, take_all, drop-drop}
 use Rattle.numbers.proofs.Clash.{clash}
 use Rattle.decimals.specs.Promises.{AllDigits}
 use Rattle.numbers.proofs.Both.{both}
@@ -89,7 +89,7 @@ cut_line : (s : List ℕ) → length_to is_break s < length s → s ≡ line_in 
 cut_line s h =
     let n = length_to is_break s in
     sym (take-append-drop n s)
-    ∙ ap (λ (l : List ℕ). take n s ++ l) (two_bytes (drop n s) (at_place is_break s h) ∙ ap (λ (l : List ℕ). line_end ++ l) (drop_drop 2 n s))
+    ∙ ap (λ (l : List ℕ). take n s ++ l) (two_bytes (drop n s) (at_place is_break s h) ∙ ap (λ (l : List ℕ). line_end ++ l) (drop-drop 2 n s))
 
 abbrev Joined : List ℕ → Type 0
 Joined s = (joined (lines_of s) ≡ s) ⊎ (joined (lines_of s) ≡ s ++ line_end)

@@ -7,7 +7,7 @@ use native.Mathlib.Nat.{zero-add}
 use native.Mathlib.Numerals.{add-one}
 use native.Mathlib.Omega.{arith}
 use lib.ListN.{length, set, take, drop, length-drop, length-set, drop_of_length-le}
-use lib.Seq.{sets, drop_drop}
+use lib.Seq.{sets, drop-drop}
 use Rattle.numbers.specs.Choice.{if◌then◌else◌}
 use Rattle.packs.specs.declared.Outcome.{Outcome}
 use Rattle.packs.specs.declared.Outcome.TheVariants.{Done, Refused}
@@ -37,7 +37,7 @@ module _ (text : List ℕ) (at : ℕ) (h : at < length text) {end : ℕ} (e : en
   after_cut : lines_after (drop at text) ≡ drop (end + 2) text
   after_cut =
       let n : at + (length_to is_break (drop at text) + 2) ≡ end + 2 = omega arith in
-      drop_drop (length_to is_break (drop at text) + 2) at text ∙ ap (λ (k : ℕ). drop k text) n
+      drop-drop (length_to is_break (drop at text) + 2) at text ∙ ap (λ (k : ℕ). drop k text) n
 
   pub lines_cut : lines_of (drop at text) ≡ take (end - at) (drop at text) ∷ lines_of (drop (end + 2) text)
   lines_cut =

@@ -5,7 +5,7 @@ use mathlib.Core.Bool.{Bool, true, false}
 use mathlib.Core.List.{List, [], ◌∷◌}
 use native.Mathlib.Omega.{arith}
 use lib.ListN.{length, take, drop, replicate, length-replicate}
-use lib.Seq.{sets, sets_eq, length-sets, take_at}
+use lib.Seq.{sets, sets-eq, length-sets, take_at}
 use Rattle.numbers.specs.Choice.{if◌then◌else◌}
 use Rattle.numbers.proofs.Clash.{clash}
 use Rattle.packs.specs.declared.Outcome.{Outcome}
@@ -64,7 +64,7 @@ list_count claims (header ∷ lines) n e = go (same_bytes header (header_of clai
 -- ---- scratch of 120 words
 kept_part : (values : List ℕ) {n : ℕ} {stored : List ℕ} → length values ≡ n → n ≤ 120 → stored ≡ sets (replicate 120 0) 0 values → take n stored ≡ values
 kept_part values {n} e few s =
-    ap (take n) (s ∙ sets_eq values (replicate 120 0) 0 (omega (arith, length-replicate {A = ℕ} 120 0))) ∙ take_at values (drop (0 + length values) (replicate 120 0)) n e
+    ap (take n) (s ∙ sets-eq values (replicate 120 0) 0 (omega (arith, length-replicate {A = ℕ} 120 0))) ∙ take_at values (drop (0 + length values) (replicate 120 0)) n e
 
 kept_long : (values stored : List ℕ) → stored ≡ sets (replicate 120 0) 0 values → length stored ≡ 120
 kept_long values stored s = ap length s ∙ length-sets (replicate 120 0) 0 values ∙ length-replicate {A = ℕ} 120 0

@@ -7,8 +7,8 @@ use native.Mathlib.Nat.{le_of_eq}
 use native.Mathlib.Omega.{arith}
 use lib.Dec.{lit<}
 use lib.IntN.{ℤ, pos, nat_abs}
-use lib.ListN.{length, take, drop, get_or, length-drop, length-append, length_map, get_or_append}
-use lib.Seq.{take_at, drop_drop, get_or-append-add}
+use lib.ListN.{length, take, drop, get_or, length-drop, length-append, length-map, get_or-append}
+use lib.Seq.{take_at, drop-drop, get_or-append-add}
 use mir.Syntax.{w64}
 use mir.Val.{to_z, of_z}
 use borrow.Author.Tests.{leb-true, le-leb, lt-leb, lt-ltb, le-ltb}
@@ -43,10 +43,10 @@ signed_read z x e h = gives e (small_fits (pos x) h (lit< tt))
 -- ---- a proposal's words, from kept numbers
 module _ (v y : List ℕ) where
   pub proposal_length : length (proposal_of v y) ≡ length v + length y
-  proposal_length = length_map (v ++ y) pos ∙ length-append v y
+  proposal_length = length-map (v ++ y) pos ∙ length-append v y
 
   value_at : (i : ℕ) → i < length v → word_at (proposal_of v y) i ≡ pos (get_or v i 0)
-  value_at i h = signed_at_lem (v ++ y) i ∙ ap pos (get_or_append v y 0 i h)
+  value_at i h = signed_at_lem (v ++ y) i ∙ ap pos (get_or-append v y 0 i h)
 
   multiplier_at_lem : (l : ℕ) → word_at (proposal_of v y) (length v + l) ≡ pos (get_or y l 0)
   multiplier_at_lem l = signed_at_lem (v ++ y) (length v + l) ∙ ap pos (get_or-append-add v y l 0)
@@ -58,9 +58,9 @@ module _ (v y : List ℕ) where
       let n = length v in
       let rest = drop n w in
       let r : length rest ≡ e - n = length-drop n w ∙ ap (λ (k : ℕ). k - n) (sym le) in
-      let mid : mid_of n (e - n) a ≡ rest = ap (mid_of n (e - n)) ea ∙ mid_last (map pos v) rest n (e - n) (length_map v pos) (omega arith) in
-      ap (λ (x : List ℤ). put_mid n (e - n) x b) ea ∙ put_last (map pos v) rest n (e - n) (length_map v pos) (omega arith) b
-      ∙ ap (λ (x : List ℤ). map pos v ++ x) (eb ∙ ap (λ (x : List ℤ). map pos y ++ drop (length y) x) mid ∙ ap (λ (x : List ℤ). map pos y ++ x) (drop_drop (length y) n w))
+      let mid : mid_of n (e - n) a ≡ rest = ap (mid_of n (e - n)) ea ∙ mid_last (map pos v) rest n (e - n) (length-map v pos) (omega arith) in
+      ap (λ (x : List ℤ). put_mid n (e - n) x b) ea ∙ put_last (map pos v) rest n (e - n) (length-map v pos) (omega arith) b
+      ∙ ap (λ (x : List ℤ). map pos v ++ x) (eb ∙ ap (λ (x : List ℤ). map pos y ++ drop (length y) x) mid ∙ ap (λ (x : List ℤ). map pos y ++ x) (drop-drop (length y) n w))
       ∙ sym (append_assoc (map pos v) (map pos y) (drop (n + length y) w)) ∙ ap (λ (x : List ℤ). x ++ drop (n + length y) w) (sym (map_append pos v y))
 
   -- they stand in front of what was lent

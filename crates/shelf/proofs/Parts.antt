@@ -4,7 +4,7 @@ use mathlib.Core.List.{List, ◌++◌, append_assoc}
 use Prim.Native.Nat.{ℕ, ◌+◌, ◌-◌, ◌≤◌}
 use native.Mathlib.Omega.{arith}
 use lib.ListN.{length, take, drop, length-append, length-drop, take-append-drop}
-use lib.Seq.{take_at, drop_at, length-take-le, take-append-le, drop-append-le, drop_drop}
+use lib.Seq.{take_at, drop_at, length-take-le, take-append-le, drop-append-le, drop-drop}
 use borrow.Rule.Slice.PartMut.{mid_of, post_of, same_len_mid}
 use Rattle.shelf.specs.Shelf.{on_part}
 
@@ -39,10 +39,10 @@ module _ (a k : ℕ) (f : List ℕ → List ℕ) (xs : List ℕ) (long : a + k �
   beyond =
       let y = f (mid_of a k xs) in
       let l : length (take a xs ++ y) ≡ a + k = length-append (take a xs) y ∙ ap (λ (n : ℕ). n + length y) front_length ∙ ap (λ (n : ℕ). a + n) same in
-      ap (drop (a + k)) (sym (append_assoc (take a xs) y (post_of a k xs))) ∙ drop_at (take a xs ++ y) (post_of a k xs) (a + k) l ∙ drop_drop k a xs
+      ap (drop (a + k)) (sym (append_assoc (take a xs) y (post_of a k xs))) ∙ drop_at (take a xs ++ y) (post_of a k xs) (a + k) l ∙ drop-drop k a xs
 
   pub on_after : (b m : ℕ) → a + k ≤ b → take m (drop b (on_part a k f xs)) ≡ take m (drop b xs)
   on_after b m h =
       let e : a + k + (b - (a + k)) ≡ b = omega arith in
-      let go : (l : List ℕ) → drop b l ≡ drop (b - (a + k)) (drop (a + k) l) = λ l. ap (λ (n : ℕ). drop n l) (sym e) ∙ sym (drop_drop (b - (a + k)) (a + k) l) in
+      let go : (l : List ℕ) → drop b l ≡ drop (b - (a + k)) (drop (a + k) l) = λ l. ap (λ (n : ℕ). drop n l) (sym e) ∙ sym (drop-drop (b - (a + k)) (a + k) l) in
       ap (take m) (go (on_part a k f xs) ∙ ap (drop (b - (a + k))) beyond ∙ sym (go xs))

@@ -6,7 +6,7 @@ use Prim.Native.Nat.{ℕ, suc, ◌+◌, ◌*◌}
 use native.Mathlib.Nat.{mul-zero}
 use lib.Dec.{eqb}
 use lib.ListN.{length, take, drop, get_or}
-use lib.Seq.{get_or-drop, drop_drop}
+use lib.Seq.{get_or-drop, drop-drop}
 use borrow.Author.Tests.{eq-eqb, ne_eqb}
 use Rattle.jobs.specs.Job.{Job}
 use Rattle.slots.specs.Slots.{head_size, values_end, has_job, lowest, pick, later, at_slot, slot_for, put_slot, pushed, dropped_slot, kept_in, forgot_in}
@@ -81,7 +81,7 @@ module _ (j : Job) (room at : ℕ) (s : List ℕ) where
 
   at_table : fetch_at j room (drop at s) ≡ table_at (get_or s at 0) (get_or s (at + 6) 0)
   unfolding fetch_at
-  at_table = rw (first_word s at, get_or-drop at s 6 0, drop_drop head_size at s, drop_drop values_end at s)
+  at_table = rw (first_word s at, get_or-drop at s 6 0, drop-drop head_size at s, drop-drop values_end at s)
 
   counts_differ : (cells links : ℕ) → same_counts j cells links ≡ false → refusal 12 0 ≡ table_at cells links
   unfolding fetch_table

@@ -7,7 +7,7 @@ use native.Mathlib.Nat.{add-zero, mul-zero}
 use native.Mathlib.Omega.{arith}
 use lib.Dec.{leb, eqb}
 use lib.ListN.{drop, get_or}
-use lib.Seq.{get_or-drop, drop_drop}
+use lib.Seq.{get_or-drop, drop-drop}
 use borrow.Author.Tests.{le-leb, lt-leb}
 use Rattle.slots.specs.Slots.{most_cells, is_full, is_empty, has_job, lowest, pick, later, or_else, slot_for}
 use Rattle.slots.specs.declared.Slot.{Slot}
@@ -73,7 +73,7 @@ module _ (test : List ℕ → Bool) (w c : ℕ) (s : List ℕ) where
       let n : c - p ≡ suc (c - (p + 1)) = omega arith in
       ap {B = Slot} (λ (k : ℕ). further p (lowest test w k (drop (w * p) s))) n
       ∙ ap {B = Slot} (λ (o : Bool). further p (pick o (At 0) (later (lowest test w (c - (p + 1)) (drop w (drop (w * p) s)))))) e
-      ∙ ap {B = Slot} (λ (l : List ℕ). further p (pick b (At 0) (later (lowest test w (c - (p + 1)) l)))) (drop_drop w (w * p) s ∙ ap (λ (k : ℕ). drop k s) (sym (slot_end w p)))
+      ∙ ap {B = Slot} (λ (l : List ℕ). further p (pick b (At 0) (later (lowest test w (c - (p + 1)) l)))) (drop-drop w (w * p) s ∙ ap (λ (k : ℕ). drop k s) (sym (slot_end w p)))
 
   pub left_found : (p : ℕ) → p < c → test (drop (w * p) s) ≡ true → left p ≡ At p
   left_found p h e = by_one p true h e ∙ ap {B = Slot} (λ (n : ℕ). At n) (add-zero p)

@@ -4,7 +4,7 @@ use mathlib.Core.List.{List, [], ◌++◌, append-nil, append_assoc}
 use Prim.Native.Nat.{ℕ, ◌+◌, ◌-◌, ◌*◌, ◌≤◌}
 use native.Mathlib.Omega.{arith}
 use lib.ListN.{length, take, drop, replicate, length-drop, length-append, drop_of_length-le}
-use lib.Seq.{length-take-le, take_all, drop_drop, take_at, drop_at}
+use lib.Seq.{length-take-le, take_all, drop-drop, take_at, drop_at}
 use borrow.Rule.Slice.PartMut.{put_mid, mid_of, post_of}
 use Rattle.slots.specs.Slots.{put_slot, dropped_slot, pushed}
 use Rattle.slots.proofs.Sizes.{slot_end}
@@ -15,7 +15,7 @@ put_is w p s x y e =
     let k : w * p + w - w * p ≡ w = omega arith in
     ap (λ (n : ℕ). take (w * p) s ++ (y ++ drop n (drop (w * p) s))) k
     ∙ ap (λ (r : List ℕ). take (w * p) s ++ (r ++ drop w (drop (w * p) s))) e
-    ∙ ap (λ (r : List ℕ). take (w * p) s ++ (x ++ r)) (drop_drop w (w * p) s ∙ ap (λ (n : ℕ). drop n s) (sym (slot_end w p)))
+    ∙ ap (λ (r : List ℕ). take (w * p) s ++ (x ++ r)) (drop-drop w (w * p) s ∙ ap (λ (n : ℕ). drop n s) (sym (slot_end w p)))
 
 -- ys is a span of n words, kept but for its last w
 module _ (w n : ℕ) (k : w ≤ n) (front last ys : List ℕ) (cut : ys ≡ front ++ last) (fl : length front ≡ n - w) (ll : length last ≡ w) where
@@ -54,9 +54,9 @@ module _ (w : ℕ) (s : List ℕ) (k : w ≤ length s) where
         let l : length (drop a s) ≡ length s - a = length-drop a s in
         let q : a + (length s - a - w) ≡ length s - w = omega arith in
         e ∙ ap (λ (m : List ℕ). drop w m ++ drop (length m - w) m) mid_all
-        ∙ ap (λ (r : List ℕ). r ++ drop (length (drop a s) - w) (drop a s)) (drop_drop w a s)
+        ∙ ap (λ (r : List ℕ). r ++ drop (length (drop a s) - w) (drop a s)) (drop-drop w a s)
         ∙ ap (λ (n : ℕ). drop (a + w) s ++ drop (n - w) (drop a s)) l
-        ∙ ap (λ (r : List ℕ). drop (a + w) s ++ r) (drop_drop (length s - a - w) a s ∙ ap (λ (n : ℕ). drop n s) q)
+        ∙ ap (λ (r : List ℕ). drop (a + w) s ++ r) (drop-drop (length s - a - w) a s ∙ ap (λ (n : ℕ). drop n s) q)
 
     shifted_is : (ys : List ℕ) → ys ≡ drop (a + w) s ++ drop (length s - w) s → put_mid a (length s - a) s ys ≡ (take a s ++ drop (a + w) s) ++ drop (length s - w) s
     shifted_is ys e =

@@ -4,7 +4,7 @@ use mathlib.Core.List.{List, [], ◌++◌, append-nil, append_assoc}
 use Prim.Native.Nat.{ℕ, ◌+◌, ◌-◌, ◌≤◌}
 use native.Mathlib.Omega.{arith}
 use lib.ListN.{length, take, drop, replicate, length-drop, length-append, length-replicate, drop_of_length-le}
-use lib.Seq.{length-take-le, take_all, take_at, drop_at, sets, sets_eq}
+use lib.Seq.{length-take-le, take_all, take_at, drop_at, sets, sets-eq}
 use borrow.Rule.Slice.PartMut.{put_mid, mid_of, post_of}
 use Rattle.slots.specs.Slots.{head_size, most_cells, values_end, head_of, padded, slot_of}
 
@@ -29,7 +29,7 @@ mid_last a rest i k e h = mid_next a rest i e k ∙ take_all k rest h
 -- ---- stores over all of a list
 pub stored_all : (l h : List ℕ) → length l ≡ length h → sets l 0 h ≡ h
 stored_all l h e =
-    sets_eq h l 0 (omega arith) ∙ ap (λ (r : List ℕ). h ++ r) (drop_of_length-le l {i = 0 + length h} (omega arith)) ∙ append-nil h
+    sets-eq h l 0 (omega arith) ∙ ap (λ (r : List ℕ). h ++ r) (drop_of_length-le l {i = 0 + length h} (omega arith)) ∙ append-nil h
 
 -- ---- words over the front of a part, and zeros after them
 pub padded_is : (p v b zs : List ℕ) (k : ℕ) → length v ≤ length p → k ≡ length p → b ≡ v ++ drop (length v) p → zs ≡ replicate (length (mid_of (length v) (k - length v) b)) 0

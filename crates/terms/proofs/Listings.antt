@@ -11,7 +11,7 @@ use native.Mathlib.Numerals.{add-one}
 use borrow.Author.Tests.{lt-ltb, le-ltb}
 use lib.Dec.{ltb}
 use lib.IntN.{ℤ, pos}
-use lib.ListN.{length, set, length-append, get_or_append}
+use lib.ListN.{length, set, length-append, get_or-append}
 use lib.Seq.{sets, get_or-append-add}
 use Rattle.numbers.specs.Choice.{if◌then◌else◌}
 use Rattle.numbers.proofs.Stores.{sets_append}
@@ -50,7 +50,7 @@ entries_word j v y (suc k) p d h l = go (λ i. entries_word j v y k p d i l) (N.
         ∙ get_or-append-add (entries j v y k) (entry_at j v y k) d (pos 0)
         ∙ ap (λ (i : ℕ). word_at (entry_at j v y i) d) (sym e)
     go f (inr i) =
-        get_or_append (entries j v y k) (entry_at j v y k) (pos 0) (3 * p + d) (omega (arith, entries_count j v y k)) ∙ f i
+        get_or-append (entries j v y k) (entry_at j v y k) (pos 0) (3 * p + d) (omega (arith, entries_count j v y k)) ∙ f i
 
 entries_next : (j : Job) (v y : ℕ → ℤ) (k : ℕ) → entries j v y k ++ entry_at j v y k ≡ entries j v y (k + 1)
 unfolding entries

@@ -7,8 +7,8 @@ use mathlib.Core.List.{List, [], ◌∷◌, ◌++◌, append_assoc}
 use native.Mathlib.Nat as N
 use native.Mathlib.Omega.{arith}
 use lib.IntN.{ℤ, pos}
-use lib.ListN.{length, drop, length-append, length-drop, get_or_append}
-use lib.Seq.{drop-cons, drop-append_seam, drop_drop, get_or-drop}
+use lib.ListN.{length, drop, length-append, length-drop, get_or-append}
+use lib.Seq.{drop-cons, drop-append_seam, drop-drop, get_or-drop}
 use Rattle.jobs.specs.Words.{word_at}
 use Rattle.jobs.proofs.Taken.{here_on}
 use Rattle.turned.specs.Words.{in_turn}
@@ -58,7 +58,7 @@ module _ (block : ℕ → List ℤ) (start : ℕ → ℕ) (ws : List ℤ) where
 
       here : Stands i
       here = record {
-        at = λ c l. sym (get_or-drop (start i) ws c (pos 0)) ∙ ap (λ (xs : List ℤ). word_at xs c) more ∙ get_or_append (block i) (in_turn block (suc i) k ++ rest) (pos 0) c l;
+        at = λ c l. sym (get_or-drop (start i) ws c (pos 0)) ∙ ap (λ (xs : List ℤ). word_at xs c) more ∙ get_or-append (block i) (in_turn block (suc i) k ++ rest) (pos 0) c l;
         room = omega (arith, length-drop (start i) ws, ap length more, length-append (block i) (in_turn block (suc i) k ++ rest));
       }
 
@@ -67,7 +67,7 @@ module _ (block : ℕ → List ℤ) (start : ℕ → ℕ) (ws : List ℤ) where
 
       onward : drop (start (suc i)) ws ≡ in_turn block (suc i) k ++ rest
       onward =
-          ap (λ (p : ℕ). drop p ws) step ∙ sym (drop_drop (length (block i)) (start i) ws) ∙ ap (drop (length (block i))) more
+          ap (λ (p : ℕ). drop p ws) step ∙ sym (drop-drop (length (block i)) (start i) ws) ∙ ap (drop (length (block i))) more
           ∙ drop-append_seam (block i) (in_turn block (suc i) k ++ rest)
 
       go : Reached rest (suc i) k → Reached rest i (suc k)

@@ -6,7 +6,7 @@ use mathlib.Core.List.{List, [], ◌∷◌, ◌++◌}
 use native.Mathlib.Nat as N
 use native.Mathlib.Omega.{arith}
 use lib.IntN.{ℤ, pos}
-use lib.ListN.{length, drop, length-append, length-drop, get_or_append}
+use lib.ListN.{length, drop, length-append, length-drop, get_or-append}
 use lib.Seq.{drop-cons, drop-append_seam, get_or-append-add, get_or-drop}
 use Rattle.whole.proofs.Turned.{Involution}
 use Rattle.jobs.specs.Words.{word_at}
@@ -40,7 +40,7 @@ module _ (τ : ℕ → ℕ) (cells : ℕ) (ps : List ℤ) where
 
   pub turned_value_lem : (i : ℕ) → i < cells → word_at ps' i ≡ word_at ps (τ i)
   turned_value_lem i h =
-      get_or_append values (drop cells ps) (pos 0) i (subst (λ (n : ℕ). i < n) (sym long) h)
+      get_or-append values (drop cells ps) (pos 0) i (subst (λ (n : ℕ). i < n) (sym long) h)
       ∙ single_at word cells 0 i h ∙ ap (λ (x : ℕ). word_at ps (τ x)) (N.zero-add i)
 
   pub turned_multiplier : (l : ℕ) → word_at ps' (cells + l) ≡ word_at ps (cells + l)

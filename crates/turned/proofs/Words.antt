@@ -7,8 +7,8 @@ use native.Mathlib.Nat as N
 use native.Mathlib.Omega.{arith}
 use lib.Dec.{eqb}
 use lib.IntN.{ℤ, pos, nat_abs}
-use lib.ListN.{length, take, drop, length-append, length-drop, drop_of_length-le, take-append-drop, get_or_append}
-use lib.Seq.{drop-cons, drop_drop, drop-append_seam, get_or-drop, get_or_at, get_or-take, length-take-le}
+use lib.ListN.{length, take, drop, length-append, length-drop, drop_of_length-le, take-append-drop, get_or-append}
+use lib.Seq.{drop-cons, drop-drop, drop-append_seam, get_or-drop, get_or_at, get_or-take, length-take-le}
 use Rattle.numbers.specs.Choice.{if◌then◌else◌}
 use Rattle.whole.specs.Sum.{only, coefficient_of}
 use Rattle.whole.proofs.Sums.{sum_cong}
@@ -144,7 +144,7 @@ module _ (ws : List ℤ) (L : Laid ws) (τ : ℕ → ℕ) where
   pub same_word : (p : ℕ) → p < head_words ws → word_at ws' p ≡ word_at ws p
   unfolding turned_words
   same_word p h =
-      get_or_append (take (head_words ws) ws) body (pos 0) p (subst (λ (k : ℕ). p < k) (sym head_long) h) ∙ get_or-take (head_words ws) ws p (pos 0) h
+      get_or-append (take (head_words ws) ws) body (pos 0) p (subst (λ (k : ℕ). p < k) (sym head_long) h) ∙ get_or-take (head_words ws) ws p (pos 0) h
 
   early : {p : ℕ} → p < 6 → p < head_words ws
   early h = N.lt_of_lt_of_le h (head_some ws)
@@ -234,7 +234,7 @@ module _ (ws : List ℤ) (L : Laid ws) (τ : ℕ → ℕ) where
 
       first : drop (start_of ws' 0) ws' ≡ in_turn (turned_link τ ws) 0 (links_of ws) ++ []
       first =
-          ap (λ (p : ℕ). drop p ws') from ∙ sym (drop_drop 1 (head_words ws + 4 * cells_of ws) ws') ∙ ap (drop 1) after_cells
+          ap (λ (p : ℕ). drop p ws') from ∙ sym (drop-drop 1 (head_words ws + 4 * cells_of ws) ws') ∙ ap (drop 1) after_cells
           ∙ sym (append-nil (in_turn (turned_link τ ws) 0 (links_of ws)))
 
       inside : start_of ws' 0 ≤ length ws'
@@ -261,7 +261,7 @@ module _ (ws : List ℤ) (L : Laid ws) (τ : ℕ → ℕ) where
     -- a word of the terms
     term_of : (c p : ℕ) → p ≡ start_of ws' l + suc c → c < 2 * count l → word_at ws' p ≡ word_at (terms l) c
     term_of c p e k =
-        ap (word_at ws') e ∙ stands.at (suc c) (omega (arith, long_link l)) ∙ get_or_append (terms l) ((job_of ws).bound l ∷ []) (pos 0) c (omega (arith, long l))
+        ap (word_at ws') e ∙ stands.at (suc c) (omega (arith, long_link l)) ∙ get_or-append (terms l) ((job_of ws).bound l ∷ []) (pos 0) c (omega (arith, long l))
 
     pub cell_there : (m : ℕ) → m < count l → word_at ws' (start_of ws' l + 1 + 2 * m) ≡ word_at (terms l) (2 * m)
     cell_there m k = term_of (2 * m) (start_of ws' l + 1 + 2 * m) (omega arith) (omega arith)

@@ -10,4 +10,4 @@ slice_bounds-out-end c = omega (arith, c.line_of-size.ensures.0, simp length-app
 
 pub slice_bounds-write_all-end : goal.slice_bounds-write_all-end
 slice_bounds-write_all-end c = let l = c.line_of-size in
-    sym (length-take-le l.result l.new.1.0 (omega (arith, l.ensures.0, simp length-append at (ap length l.ensures.1))))
+    sym (length-take-le l.result l.new.out (omega (arith, l.ensures.0, simp length-append at (ap length l.ensures.1))))

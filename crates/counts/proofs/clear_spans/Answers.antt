@@ -18,12 +18,12 @@ pub overflow_add-e : goal.overflow_add-e
 overflow_add-e c = omega (arith, c.slots_below-slots.ensures, (right_allotted c.args.counts.now c.requires.2).total)
 
 pub slice_bounds-zero_words-end : goal.slice_bounds-zero_words-end
-slice_bounds-zero_words-end c = omega (arith, c.slots_below-slots.ensures, (right_allotted c.args.counts.now c.requires.2).total, c.copy_words.auto.0, c.requires.0)
+slice_bounds-zero_words-end c = omega (arith, c.slots_below-slots.ensures, (right_allotted c.args.counts.now c.requires.2).total, c.copy_words.auto.dst, c.requires.0)
 
 pub returns : goal.returns
 returns c = let row = c.args.counts.now in
     let slots = c.slots_below-slots in
     let copy = c.copy_words in
     let zero = c.zero_words in
-    cleared_is row c.args.shelf.now copy.new.0 zero.new.0 slots.result (societies + slot_words * slots.result) c.requires.1 c.requires.0
+    cleared_is row c.args.shelf.now copy.new.dst zero.new.s slots.result (societies + slot_words * slots.result) c.requires.1 c.requires.0
     (right_allotted row c.requires.2).total slots.ensures refl copy.ensures zero.ensures

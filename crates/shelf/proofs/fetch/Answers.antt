@@ -17,7 +17,7 @@ returns-in-Passed c = let got = c.fetch_pack in
     let a = c.args in
     let o = a.out.now in
     let call = fetch a.job.now (length o) in
-    replied (fetch_reply (layout_in a.shelf.now) a.job.now (length o) a.shelf.now) (said a.shelf.now (own call)) got.result o got.new.1.1.0
+    replied (fetch_reply (layout_in a.shelf.now) a.job.now (length o) a.shelf.now) (said a.shelf.now (own call)) got.result o got.new.out
     (said_passed a.shelf.now call (sym c.test_shelf-tested.ensures ∙ c.in-Passed.is)) got.ensures.0 got.ensures.1
 
 pub returns-in-Refused : goal.returns-in-Refused

@@ -11,7 +11,7 @@ forget_society-requires c = passed_ready _ (sym c.test_shelf-tested.ensures ∙ 
 pub returns-in-Passed : goal.returns-in-Passed
 returns-in-Passed c = let done = c.forget_society in
     let a = c.args in
-    passed a.shelf.now (forget a.society a.job) done.result (sym c.test_shelf-tested.ensures ∙ c.in-Passed.is) done.new.0 done.ensures.0 done.ensures.1
+    passed a.shelf.now (forget a.society a.job) done.result (sym c.test_shelf-tested.ensures ∙ c.in-Passed.is) done.new.shelf done.ensures.0 done.ensures.1
 
 pub returns-in-Refused : goal.returns-in-Refused
 returns-in-Refused c = let a = c.args in

@@ -11,7 +11,7 @@ keep_checked-requires c = passed_ready _ (sym c.test_shelf-tested.ensures ∙ c.
 pub returns-in-Passed : goal.returns-in-Passed
 returns-in-Passed c = let done = c.keep_checked in
     let a = c.args in
-    passed a.shelf.now (keep a.job.now a.proposal.now) done.result (sym c.test_shelf-tested.ensures ∙ c.in-Passed.is) done.new.0 done.ensures.0 done.ensures.1
+    passed a.shelf.now (keep a.job.now a.proposal.now) done.result (sym c.test_shelf-tested.ensures ∙ c.in-Passed.is) done.new.shelf done.ensures.0 done.ensures.1
 
 pub returns-in-Refused : goal.returns-in-Refused
 returns-in-Refused c = let a = c.args in

@@ -15,11 +15,11 @@ pub slice_bounds-list_parts-end-in-Both : goal.slice_bounds-list_parts-end-in-Bo
 slice_bounds-list_parts-end-in-Both c = lent_length 280 (proposal_words c.args.job.now c.args.proposal.now) _ c.open_both-opened.ensures.2
 
 pub list_parts-requires : goal.list_parts-requires
-list_parts-requires c = let w = lent_length 2092 (read_job c.args.job.now).words c.open_both-opened.new.1.1.0 c.open_both-opened.ensures.1 in let v = lent_length 280 (proposal_words c.args.job.now c.args.proposal.now) c.open_both-opened.new.1.1.1.0 c.open_both-opened.ensures.2 in
+list_parts-requires c = let w = lent_length 2092 (read_job c.args.job.now).words c.open_both-opened.new.words c.open_both-opened.ensures.1 in let v = lent_length 280 (proposal_words c.args.job.now c.args.proposal.now) c.open_both-opened.new.values c.open_both-opened.ensures.2 in
     (job_room c.args.job.now c.args.proposal.now (sym c.open_both-opened.ensures.0 ∙ c.in-Both.is) (sym w) (replicate 2092 (pos 0)) c.open_both-opened.ensures.1 (sym v) (replicate 280 (pos 0)) c.open_both-opened.ensures.2, proposal_room c.args.job.now c.args.proposal.now (sym c.open_both-opened.ensures.0 ∙ c.in-Both.is) (sym w) (replicate 2092 (pos 0)) c.open_both-opened.ensures.1 (sym v) (replicate 280 (pos 0)) c.open_both-opened.ensures.2, parts_given c.args.job.now c.args.proposal.now (sym c.open_both-opened.ensures.0 ∙ c.in-Both.is) (sym w) (replicate 2092 (pos 0)) c.open_both-opened.ensures.1 (sym v) (replicate 280 (pos 0)) c.open_both-opened.ensures.2)
 
 pub returns-in-Both : goal.returns-in-Both
-returns-in-Both c = let w = lent_length 2092 (read_job c.args.job.now).words c.open_both-opened.new.1.1.0 c.open_both-opened.ensures.1 in let v = lent_length 280 (proposal_words c.args.job.now c.args.proposal.now) c.open_both-opened.new.1.1.1.0 c.open_both-opened.ensures.2 in
+returns-in-Both c = let w = lent_length 2092 (read_job c.args.job.now).words c.open_both-opened.new.words c.open_both-opened.ensures.1 in let v = lent_length 280 (proposal_words c.args.job.now c.args.proposal.now) c.open_both-opened.new.values c.open_both-opened.ensures.2 in
     packs_listed c.args.job.now c.args.proposal.now (sym c.open_both-opened.ensures.0 ∙ c.in-Both.is) (sym w) (replicate 2092 (pos 0)) c.open_both-opened.ensures.1 (sym v) (replicate 280 (pos 0)) c.open_both-opened.ensures.2 c.args.out.now c.list_parts.ensures
 
 pub returns-in-Unread : goal.returns-in-Unread

@@ -17,7 +17,7 @@ pub loop-i-smaller : goal.loop-i-smaller
 loop-i-smaller c = omega (arith, c.loop-i-test.true)
 
 pub loop-i-preserved : goal.loop-i-preserved
-loop-i-preserved c = let l = c.loop-i in (omega (arith, c.loop-i-test.true), (c.put_cell.auto.1.1.1.1.0 ∙ l.invariant.1.0, cells_more c.args.g c.args.exposures.now c.args.deaths.now l.i (omega (arith, c.requires, c.loop-i-test.true)) (omega (arith, c.requires, c.loop-i-test.true)) c.args.words.now l.invariant.1.1 c.put_cell.ensures))
+loop-i-preserved c = let l = c.loop-i in (omega (arith, c.loop-i-test.true), (c.put_cell.auto.words ∙ l.invariant.1.0, cells_more c.args.g c.args.exposures.now c.args.deaths.now l.i (omega (arith, c.requires, c.loop-i-test.true)) (omega (arith, c.requires, c.loop-i-test.true)) c.args.words.now l.invariant.1.1 c.put_cell.ensures))
 
 pub shape_of-words : goal.shape_of-words
 shape_of-words c = c.loop-i.invariant.1.0

@@ -12,7 +12,7 @@ pub put_number-requires : goal.put_number-requires
 put_number-requires c = record { fits = rw length-set (omega (arith, c.requires.fits)) }
 
 pub shape_of-out : goal.shape_of-out
-shape_of-out c = c.put_number.auto.1.1.0 ∙ simp length-set
+shape_of-out c = c.put_number.auto.out ∙ simp length-set
 
 pub returns : goal.returns
 returns c = put_spaced c.args.x c.put_number.ensures

@@ -10,11 +10,11 @@ use Rattle.measure.proofs.opening.open_both.Reads as open-both-reads
 use Rattle.measure.proofs.check.check_into.Goals as goal
 
 pub check_parts-requires : goal.check_parts-requires
-check_parts-requires c = let w : length c.open_both-opened.new.1.1.0 ≡ 2092 = search rules in let v : length c.open_both-opened.new.1.1.1.0 ≡ 280 = search rules in
+check_parts-requires c = let w : length c.open_both-opened.new.words ≡ 2092 = search rules in let v : length c.open_both-opened.new.values ≡ 280 = search rules in
     (job_room c.args.job.now c.args.proposal.now (sym c.open_both-opened.ensures.0 ∙ c.in-Both.is) w c.args.words.now c.open_both-opened.ensures.1 v c.args.values.now c.open_both-opened.ensures.2, proposal_room c.args.job.now c.args.proposal.now (sym c.open_both-opened.ensures.0 ∙ c.in-Both.is) w c.args.words.now c.open_both-opened.ensures.1 v c.args.values.now c.open_both-opened.ensures.2, parts_given c.args.job.now c.args.proposal.now (sym c.open_both-opened.ensures.0 ∙ c.in-Both.is) w c.args.words.now c.open_both-opened.ensures.1 v c.args.values.now c.open_both-opened.ensures.2)
 
 pub returns-in-Both : goal.returns-in-Both
-returns-in-Both c = let w : length c.open_both-opened.new.1.1.0 ≡ 2092 = search rules in let v : length c.open_both-opened.new.1.1.1.0 ≡ 280 = search rules in
+returns-in-Both c = let w : length c.open_both-opened.new.words ≡ 2092 = search rules in let v : length c.open_both-opened.new.values ≡ 280 = search rules in
     (parts_checked c.args.job.now c.args.proposal.now (sym c.open_both-opened.ensures.0 ∙ c.in-Both.is) w c.args.words.now c.open_both-opened.ensures.1 v c.args.values.now c.open_both-opened.ensures.2 c.check_parts.ensures, c.open_both-opened.ensures.1, c.open_both-opened.ensures.2)
 
 pub returns-in-Unread : goal.returns-in-Unread

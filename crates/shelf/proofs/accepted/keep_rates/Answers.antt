@@ -35,12 +35,12 @@ returns c = let kept = c.keep_society in
     let rates = a.rates.now in
     let n = a.n in
     let links = a.links in
-    let values = c.copy_rates.new.1.1.1.0 in
-    let multipliers = c.copy_rates-2.new.1.1.1.0 in
+    let values = c.copy_rates.new.values in
+    let multipliers = c.copy_rates-2.new.values in
     let whole-n : n - 0 ≡ n = omega arith in
     let whole-links : links - 0 ≡ links = omega arith in
     kept_by_lem (layout_in a.shelf.now) a.words.now a.loss a.gap society.result number.result society.ensures number.ensures
     (take (n - 0) (drop 0 values)) (taken_from 0 n rates) (take (links - 0) (drop 0 multipliers)) (taken_from n links rates)
     (ap (λ (k : ℕ). take k (drop 0 values)) whole-n ∙ numbers_part 0 n rates (drop n (replicate 120 0)) values R.values.inside c.copy_rates.ensures)
     (ap (λ (k : ℕ). take k (drop 0 multipliers)) whole-links ∙ numbers_part n links rates (drop links (replicate 160 0)) multipliers R.multipliers.inside c.copy_rates-2.ensures)
-    a.shelf.now kept.new.0 kept.ensures
+    a.shelf.now kept.new.shelf kept.ensures

@@ -88,6 +88,6 @@ returns c = let got = c.fetch_kept in
     let d = a.at + values_end in
     let cut : b + n.result - b ≡ n.result = omega arith in
     let cut-links : d + links.result - d ≡ links.result = omega arith in
-    replied (handed room (take (b + n.result - b) (drop b s)) (kept_verdict j (take (b + n.result - b) (drop b s)) (take (d + links.result - d) (drop d s)))) (fetch_at j room (drop a.at s)) got.result o got.new.1.1.1.0
+    replied (handed room (take (b + n.result - b) (drop b s)) (kept_verdict j (take (b + n.result - b) (drop b s)) (take (d + links.result - d) (drop d s)))) (fetch_at j room (drop a.at s)) got.result o got.new.out
     (ap₂ {C = Reply} (λ (x y : ℕ). handed room (take x (drop b s)) (kept_verdict j (take x (drop b s)) (take y (drop d s)))) cut cut-links
     ∙ counts_same j room a.at s n.result links.result n.ensures links.ensures c.if-span-at.false c.if-span-at-2.false) got.ensures.0 got.ensures.1

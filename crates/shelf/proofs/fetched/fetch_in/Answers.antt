@@ -39,7 +39,7 @@ returns-in-At c = let got = c.fetch_at in
     let j = job_of a.words.now in
     let p = c.in-At.p in
     let e = sym (ap {B = Slot} (λ (x : ℕ). lowest (has_job x) slot_words a.count s) c.count_at-number.ensures) ∙ sym c.find_job-found.ensures ∙ c.in-At.is in
-    replied (fetch_at j (length o) (drop (slot_words * p) s)) (fetch_in slot_words a.count j (length o) s) got.result o got.new.1.1.1.0
+    replied (fetch_at j (length o) (drop (slot_words * p) s)) (fetch_in slot_words a.count j (length o) s) got.result o got.new.out
     (fetch_found slot_words a.count j s (length o) p e) got.ensures.0 got.ensures.1
 
 pub returns-in-Nowhere : goal.returns-in-Nowhere

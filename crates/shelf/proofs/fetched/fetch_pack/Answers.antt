@@ -19,9 +19,9 @@ returns-in-Done c = let got = c.fetch_part in
     let a = c.args in
     let o = a.out.now in
     let read = c.read-read in
-    let words = read.new.1.1.0 in
+    let words = read.new.words in
     let k = c.in-Done.k in
-    replied (fetch_from (layout_in a.shelf.now) (job_of (take k words)) (length o) a.shelf.now) (fetch_reply (layout_in a.shelf.now) a.job.now (length o) a.shelf.now) got.result o got.new.1.1.1.0
+    replied (fetch_from (layout_in a.shelf.now) (job_of (take k words)) (length o) a.shelf.now) (fetch_reply (layout_in a.shelf.now) a.job.now (length o) a.shelf.now) got.result o got.new.out
     (fetch_read a.job.now (replicate 2092 (pos 0)) (length-replicate 2092 (pos 0)) read.ensures.0 read.ensures.1 (layout_in a.shelf.now) (length o) a.shelf.now c.in-Done.is) got.ensures.0 got.ensures.1
 
 pub returns-in-Refused : goal.returns-in-Refused

@@ -24,7 +24,7 @@ returns-in-Accepted c = let a = c.args in
     let V-is = sym told.1 ∙ c.kept_verdict-verdict.ensures in
     let f = to_z-of_z {w = w64} {z = F} (record { sfits = known.0.1 }) in
     let g = to_z-of_z {w = w64} {z = G} (record { sfits = known.1.0.1 }) in
-    replied (handed (length o) v (Accepted (to_z w64 (of_z w64 F)) (to_z w64 (of_z w64 G)))) (handed (length o) v (kept_verdict (job_of a.words.now) v a.multipliers.now)) c.hand_out.result o c.hand_out.new.1.1.1.0
+    replied (handed (length o) v (Accepted (to_z w64 (of_z w64 F)) (to_z w64 (of_z w64 G)))) (handed (length o) v (kept_verdict (job_of a.words.now) v a.multipliers.now)) c.hand_out.result o c.hand_out.new.out
     (ap₂ {C = Reply} (λ (x y : ℤ). handed (length o) v (Accepted x y)) f g ∙ ap {B = Reply} (λ (w : Verdict). handed (length o) v w) V-is) c.hand_out.ensures.0 c.hand_out.ensures.1
 
 pub returns-in-Refused : goal.returns-in-Refused

@@ -25,5 +25,5 @@ returns c = let a = c.args in
     let gap = c.size_of-g in
     let f = loss.ensures ∙ ap (λ (z : ℤ). nat_abs z) (to_z-of_z c.ranges.loss) in
     let g = gap.ensures ∙ ap (λ (z : ℤ). nat_abs z) (to_z-of_z c.ranges.gap) in
-    replied (record { answer = record { number = 0; place = length v; loss = loss.result; gap = gap.result }; values = v }) (handed (length o) v (Accepted a.loss a.gap)) _ o c.copy_words.new.0
+    replied (record { answer = record { number = 0; place = length v; loss = loss.result; gap = gap.result }; values = v }) (handed (length o) v (Accepted a.loss a.gap)) _ o c.copy_words.new.dst
     (hand_given (length o) v a.loss a.gap c.if-out-n.false loss.result gap.result f g) refl c.copy_words.ensures

@@ -23,11 +23,11 @@ check_first-requires c = let a = c.args in
     let y = a.multipliers.now in
     let put = c.put_proposal in
     let k = length v + length y in
-    (proposal_inside v y put.new.0 _ put.ensures k refl, subst (λ (ps : List ℤ). Given a.words.now ps) (sym (proposal_front v y put.new.0 _ put.ensures k refl)) (judged_given a.words.now v y c.requires))
+    (proposal_inside v y put.new.words _ put.ensures k refl, subst (λ (ps : List ℤ). Given a.words.now ps) (sym (proposal_front v y put.new.words _ put.ensures k refl)) (judged_given a.words.now v y c.requires))
 
 pub returns : goal.returns
 returns c = let a = c.args in
     let v = a.values.now in
     let y = a.multipliers.now in
     let put = c.put_proposal in
-    c.check_first.ensures ∙ ap (λ (ps : List ℤ). verdict_for (job_of a.words.now) ps) (proposal_front v y put.new.0 _ put.ensures (length v + length y) refl)
+    c.check_first.ensures ∙ ap (λ (ps : List ℤ). verdict_for (job_of a.words.now) ps) (proposal_front v y put.new.words _ put.ensures (length v + length y) refl)

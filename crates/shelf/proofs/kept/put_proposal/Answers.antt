@@ -8,4 +8,4 @@ pub returns : goal.returns
 returns c = let a = c.args in
     let first = c.copy_signed in
     let second = c.copy_signed-2 in
-    proposal_put a.values.now a.multipliers.now a.words.now first.new.0 second.new.0 (length a.words.now) refl c.requires first.ensures second.ensures
+    proposal_put a.values.now a.multipliers.now a.words.now first.new.words second.new.words (length a.words.now) refl c.requires first.ensures second.ensures

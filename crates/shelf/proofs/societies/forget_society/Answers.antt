@@ -20,6 +20,6 @@ returns c = let gone = c.forget_in in
     let a = own.result.start in
     let e = own.result.end in
     let count = own.ensures.1.0 in
-    forget_within (layout_in shelf) args.society shelf a e own.ensures.0 (own.ensures.1.1.0 ∙ ap (λ (n : ℕ). a + slot_words * n) count) c.if-society-gt-LAST_SOCIETY.false args.job gone.result gone.new.0
+    forget_within (layout_in shelf) args.society shelf a e own.ensures.0 (own.ensures.1.1.0 ∙ ap (λ (n : ℕ). a + slot_words * n) count) c.if-society-gt-LAST_SOCIETY.false args.job gone.result gone.new.span
     (gone.ensures.0 ∙ ap {B = Answer} (λ (n : ℕ). (forget_reply slot_words n args.job (mid_of a (e - a) shelf)).answer) count)
     (gone.ensures.1 ∙ ap (λ (n : ℕ). forgot_in slot_words n args.job (mid_of a (e - a) shelf)) count)

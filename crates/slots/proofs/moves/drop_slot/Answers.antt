@@ -9,4 +9,4 @@ use Rattle.slots.proofs.moves.drop_slot.Goals as goal
 pub returns : goal.returns
 returns c = let s = c.args.span.now in
     let p = c.args.p in
-    drop_is slot_words s (omega arith) (slot_words * p) c.requires c.shift_down.new.0 c.shift_down.ensures c.zero_words.new.0 c.zero_words.ensures ∙ dropped_is slot_words p s
+    drop_is slot_words s (omega arith) (slot_words * p) c.requires c.shift_down.new.s c.shift_down.ensures c.zero_words.new.s c.zero_words.ensures ∙ dropped_is slot_words p s

@@ -7,4 +7,4 @@ pub returns : goal.returns
 returns c = let put = c.put_table in
     let shift = c.shift_down in
     let a = c.args in
-    push_is slot_words a.span.now c.requires.0 (slot_of slot_words a.job a.loss a.gap a.values.now a.multipliers.now) shift.new.0 shift.ensures put.new.0 put.ensures
+    push_is slot_words a.span.now c.requires.0 (slot_of slot_words a.job a.loss a.gap a.values.now a.multipliers.now) shift.new.s shift.ensures put.new.slot put.ensures

@@ -6,4 +6,4 @@ use Rattle.slots.proofs.moves.put_at.Goals as goal
 pub returns : goal.returns
 returns c = let put = c.put_table in
     let a = c.args in
-    put_is slot_words a.p a.span.now (slot_of slot_words a.job a.loss a.gap a.values.now a.multipliers.now) put.new.0 put.ensures
+    put_is slot_words a.p a.span.now (slot_of slot_words a.job a.loss a.gap a.values.now a.multipliers.now) put.new.slot put.ensures

@@ -10,4 +10,4 @@ returns c = let head = c.put_head in
     let multipliers = c.put_padded-2 in
     let a = c.args in
     table_is slot_words a.slot.now c.requires.0 (omega arith) a.job a.loss a.gap a.values.now a.multipliers.now c.requires.1
-    head.new.0 head.ensures values.new.0 values.ensures multipliers.new.0 multipliers.ensures
+    head.new.head head.ensures values.new.part values.ensures multipliers.new.part multipliers.ensures

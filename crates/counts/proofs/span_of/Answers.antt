@@ -31,4 +31,4 @@ returns c = let shelf = c.args.shelf.now in
     let count = c.wide-count.ensures ∙ count_at shelf c.requires.0 s c.requires.1 in
     let some = count_some shelf c.requires.0 s c.requires.1 in
     let inside = span_inside shelf c.requires.0 s c.requires.1 in
-    (ap (λ (n : ℕ). societies + slot_words * n) below, (count, (refl, (omega arith, omega arith))))
+    record { start = ap (λ (n : ℕ). societies + slot_words * n) below; count = count; end = refl; inside = (omega arith, omega arith) }

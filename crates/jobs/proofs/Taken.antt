@@ -60,8 +60,13 @@ first_of ws l p a e = ap (word_at ws) (sym (N.add-zero p)) ∙ sym (get_or-drop 
 rest_of_lem : (ws l : List ℤ) (p : ℕ) (a : ℤ) → drop p ws ≡ a ∷ l → l ≡ drop (p + 1) ws
 rest_of_lem ws l p a e = sym (ap (drop 1) e) ∙ drop-drop 1 p ws
 
+-- only the end has nothing behind it
+nothing_left : {f : Field} {l : List ℤ} → Steps f l → l ≡ [] → end_at f ≡ true
+nothing_left done e = refl
+nothing_left (go x s t) e = clash (cc)
+
 taken_from_lem : (ws l : List ℤ) (p : ℕ) (f : Field) → end_at f ≡ false → drop p ws ≡ l → Steps f l → Taken ws f p
-taken_from_lem ws [] p End e q done = clash (cc)
+taken_from_lem ws [] p f e q s = let some : true ≡ false = sym (nothing_left s refl) ∙ e in clash (cc)
 taken_from_lem ws (a ∷ l) p f e q (go {g = g} x s t) = record {
   x = x;
   g = g;

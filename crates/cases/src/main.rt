@@ -6,13 +6,14 @@
 // proposal pack; its line is number, place, F and G.
 #![tactic(auto)]
 
-ghost use Rattle.std.specs.Prelude.{◌≡◌, ◌≤◌, ◌<◌, length};
+ghost use Rattle.std.specs.Prelude.{◌≡◌, ◌≤◌, ◌<◌, length, IfOk};
 
 use house::proposal::propose;
-use libc::{STDIN_FILENO, STDOUT_FILENO};
 use measure::check::{Verdict, check};
 use numbers::zigzag::{Sign, sign_of};
 use packs::Outcome;
+use std::io;
+use std::io::Read;
 
 // The most cases that are run: the program ends, even where its input does not.
 const CASES: usize = 10000;
@@ -20,76 +21,73 @@ const CASES: usize = 10000;
 // The most bytes of a pack, and the most room for a proposal. No pack that can be read is longer.
 const PACK: usize = 4096;
 
-fn space() {
-    io::write_all(STDOUT_FILENO, &[b' ']);
+fn space(rt: &impl Print) -> io::Result<()> {
+    rt.write_all(b" ")
 }
 
-fn line_feed() {
-    io::write_all(STDOUT_FILENO, &[b'\n']);
+fn line_feed(rt: &impl Print) -> io::Result<()> {
+    rt.write_all(b"\n")
 }
 
 // An outcome's or a verdict's number and place.
-fn print_two(number: u64, place: usize) {
-    io::print_decimal(STDOUT_FILENO, number);
-    space();
-    io::print_decimal(STDOUT_FILENO, place as u64);
+fn print_two(rt: &impl Print, number: u64, place: usize) -> io::Result<()> {
+    rt.print(number)?;
+    space(rt)?;
+    rt.print(place)
 }
 
-fn print_bytes(bytes: &[u8], n: usize) {
+fn print_bytes(rt: &impl Print, bytes: &[u8], n: usize) -> io::Result<()> {
     let mut i = 0;
     while i < n {
         if i < bytes.len() {
-            space();
-            io::print_decimal(STDOUT_FILENO, wide(bytes[i]) as u64);
+            space(rt)?;
+            rt.print(bytes[i])?;
         }
         i += 1;
     }
+    Ok(())
 }
 
 // A loss or a gap. Neither is below 0: such a one would show as a sign alone.
-fn print_figure(x: i64) {
-    space();
+fn print_figure(rt: &impl Print, x: i64) -> io::Result<()> {
+    space(rt)?;
     match sign_of(x) {
-        Sign::Plus(n) => {
-            io::print_decimal(STDOUT_FILENO, n);
-        }
-        Sign::Minus(_) => {
-            io::write_all(STDOUT_FILENO, &[b'-']);
-        }
+        Sign::Plus(n) => rt.print(n),
+        Sign::Minus(_) => rt.write_all(b"-"),
     }
 }
 
 // The proposal for a pack, into an output, and its outcome on a line.
-fn print_proposal(pack: &[u8], out: &mut [u8]) {
+fn print_proposal(rt: &impl Print, pack: &[u8], out: &mut [u8]) -> io::Result<()> {
     let r = propose(pack, out);
     match r {
         Outcome::Done(n) => {
-            print_two(0, n);
-            print_bytes(out, n);
+            print_two(rt, 0, n)?;
+            print_bytes(rt, out, n)?;
         }
         Outcome::Refused(number, place) => {
-            print_two(number, place);
+            print_two(rt, number, place)?;
         }
     }
-    line_feed();
+    line_feed(rt)
 }
 
 // The verdict on two packs, on a line.
-fn print_verdict(job: &[u8], proposal: &[u8]) {
+fn print_verdict(rt: &impl Print, job: &[u8], proposal: &[u8]) -> io::Result<()> {
     let r = check(job, proposal);
     match r {
         Verdict::Accepted { loss, gap } => {
-            print_two(0, 0);
-            print_figure(loss);
-            print_figure(gap);
+            print_two(rt, 0, 0)?;
+            print_figure(rt, loss)?;
+            print_figure(rt, gap)?;
         }
         Verdict::Refused { number, place } => {
-            print_two(number, place);
-            print_figure(0);
-            print_figure(0);
+            print_two(rt, number, place)?;
+            print_figure(rt, 0)?;
+            print_figure(rt, 0)?;
         }
     }
-    line_feed();
+    line_feed(rt)
 }
 
 fn wide(x: u8) -> usize
@@ -102,73 +100,89 @@ fn two_bytes(low: u8, high: u8) -> usize {
     wide(low) + 256 * wide(high)
 }
 
+// Reads until the buffer is full or the input ends, and answers how many bytes it put at the buffer's start.
+fn read_full<R: Read>(from: &mut R, buf: &mut [u8]) -> io::Result<usize>
+    ensures { IfOk result (λ n. n ≤ length buf.new) }
+{
+    let mut done = 0;
+    while done < buf.len() {
+        let n = from.read(&mut buf[done..])?;
+        if n == 0 {
+            break;
+        }
+        done += n;
+    }
+    Ok(done)
+}
+
 // Reads so many bytes to the start of a pack's room, and answers whether the input had them.
-fn read_pack(size: usize, pack: &mut [u8]) -> bool
+fn read_pack(rt: &HostRuntime, size: usize, pack: &mut [u8]) -> io::Result<bool>
     requires { size ≤ length pack.old }
 {
-    let n = io::read_full(STDIN_FILENO, &mut pack[0..size]);
-    n == size
+    let n = read_full(&mut rt.stdin(), &mut pack[0..size])?;
+    Ok(n == size)
 }
 
 // A house proposal for a job pack of so many bytes, with so much room.
-fn house_case(size: usize, room: usize) -> bool {
+fn house_case(rt: &HostRuntime, size: usize, room: usize) -> io::Result<bool> {
     if PACK < size || PACK < room {
-        return false;
+        return Ok(false);
     }
     let mut pack = [0u8; PACK];
     let mut out = [0u8; PACK];
-    if !read_pack(size, &mut pack) {
-        return false;
+    if !read_pack(rt, size, &mut pack)? {
+        return Ok(false);
     }
-    print_proposal(&pack[0..size], &mut out[0..room]);
-    true
+    print_proposal(rt, &pack[0..size], &mut out[0..room])?;
+    Ok(true)
 }
 
 // A check of the proposal pack that follows, of so many bytes, against a job pack.
-fn check_against(job: &[u8], size: usize) -> bool {
+fn check_against(rt: &HostRuntime, job: &[u8], size: usize) -> io::Result<bool> {
     if PACK < size {
-        return false;
+        return Ok(false);
     }
     let mut proposal = [0u8; PACK];
-    if !read_pack(size, &mut proposal) {
-        return false;
+    if !read_pack(rt, size, &mut proposal)? {
+        return Ok(false);
     }
-    print_verdict(job, &proposal[0..size]);
-    true
+    print_verdict(rt, job, &proposal[0..size])?;
+    Ok(true)
 }
 
 // A check, with a job pack and a proposal pack of so many bytes.
-fn check_case(job_size: usize, proposal_size: usize) -> bool {
+fn check_case(rt: &HostRuntime, job_size: usize, proposal_size: usize) -> io::Result<bool> {
     if PACK < job_size {
-        return false;
+        return Ok(false);
     }
     let mut job = [0u8; PACK];
-    if !read_pack(job_size, &mut job) {
-        return false;
+    if !read_pack(rt, job_size, &mut job)? {
+        return Ok(false);
     }
-    check_against(&job[0..job_size], proposal_size)
+    check_against(rt, &job[0..job_size], proposal_size)
 }
 
 // The next case; false where the input has none.
-fn next_case() -> bool {
+fn next_case(rt: &HostRuntime) -> io::Result<bool> {
     let mut head = [0u8; 5];
-    let n = io::read_full(STDIN_FILENO, &mut head);
+    let n = read_full(&mut rt.stdin(), &mut head)?;
     if n < 5 {
-        return false;
+        return Ok(false);
     }
     let first = two_bytes(head[1], head[2]);
     let second = two_bytes(head[3], head[4]);
     match head[0] {
-        0 => house_case(first, second),
-        1 => check_case(first, second),
-        _ => false,
+        0 => house_case(rt, first, second),
+        1 => check_case(rt, first, second),
+        _ => Ok(false),
     }
 }
 
-fn main() {
+fn main(rt: HostRuntime) -> io::Result<()> {
     for _ in 0..CASES {
-        if !next_case() {
-            return;
+        if !next_case(&rt)? {
+            break;
         }
     }
+    Ok(())
 }

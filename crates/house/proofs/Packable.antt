@@ -1,5 +1,5 @@
 -- A list of allowed values and multipliers is written as its own numbers, and reads back.
-use Rattle.std.proofs.Common.{◌≡◌, ℕ, ◌+◌, ◌-◌, ◌<◌, ◌≤◌, Bool, true, false, ltb, List, length, ℤ, pos, nat_abs, refl, ap, ◌∙◌, subst, arith, lit<, w64, SFits, ltb-false, ltb-true}
+use Rattle.std.proofs.Common.{◌≡◌, ℕ, ◌+◌, ◌-◌, ◌≤◌, Bool, true, false, ltb, List, length, ℤ, pos, nat_abs, refl, ap, ◌∙◌, subst, arith, lit<, w64, SFits, ltb-false, ltb-true}
 use native.Mathlib.Nat as N
 use lib.ListN.{get_or-eq_default}
 use Rattle.whole.proofs.Fits.{small_fits}

@@ -19,22 +19,19 @@ pub slice_bounds-put_table-end-in-Accepted : goal.slice_bounds-put_table-end-in-
 slice_bounds-put_table-end-in-Accepted c = let a = c.args in lent_length 280 (proposal_words a.job.now a.proposal.now) _ c.check_into-verdict.ensures.2
 
 pub put_table-requires : goal.put_table-requires
-put_table-requires c = let told = c.verdict-1.given in
-    let a = c.args in
-    (given_packs a.job.now a.proposal.now told.0.0 told.0.1.0 (sym c.check_into-verdict.ensures.0 ∙ told.1) c.check_into-verdict.new.words c.check_into-verdict.ensures.1 c.check_into-verdict.new.values c.check_into-verdict.ensures.2, c.requires)
+put_table-requires c = let a = c.args in
+    (given_packs a.job.now a.proposal.now c.in-Accepted.loss c.in-Accepted.gap (sym c.check_into-verdict.ensures.0 ∙ c.in-Accepted.is) c.check_into-verdict.new.words c.check_into-verdict.ensures.1 c.check_into-verdict.new.values c.check_into-verdict.ensures.2, c.requires)
 
 pub returns-in-Accepted : goal.returns-in-Accepted
 returns-in-Accepted c = let known = c.in-Accepted.known_told-1-own.given in
-    let told = c.verdict-1.given in
     let a = c.args in
     let words = c.check_into-verdict.new.words in
     let rates = c.check_into-verdict.new.values in
-    let f = to_z-of_z {w = w64} {z = told.0.0} (record { sfits = known.0.1 }) in
-    let g = to_z-of_z {w = w64} {z = told.0.1.0} (record { sfits = known.1.0.1 }) in
-    let line = accepted_line a.job.now a.proposal.now told.0.0 told.0.1.0 (sym c.check_into-verdict.ensures.0 ∙ told.1) c.check_into-verdict.new.words c.check_into-verdict.ensures.1 c.check_into-verdict.new.values c.check_into-verdict.ensures.2 in
+    let f = to_z-of_z {w = w64} {z = c.in-Accepted.loss} (record { sfits = known.0.1 }) in
+    let g = to_z-of_z {w = w64} {z = c.in-Accepted.gap} (record { sfits = known.1.0.1 }) in
+    let line = accepted_line a.job.now a.proposal.now c.in-Accepted.loss c.in-Accepted.gap (sym c.check_into-verdict.ensures.0 ∙ c.in-Accepted.is) c.check_into-verdict.new.words c.check_into-verdict.ensures.1 c.check_into-verdict.new.values c.check_into-verdict.ensures.2 in
     puts_same (ap₂ (λ (x y : ℤ). table_line words rates (cells_of words) (nat_abs x) (nat_abs y)) f g ∙ line) c.put_table.ensures
 
 pub returns-in-Refused : goal.returns-in-Refused
-returns-in-Refused c = let told = c.verdict-in-Refused-1.given in
-    let a = c.args in
-    puts_same (sym (refused_lines a.job.now a.proposal.now told.0.0 told.0.1.0 (sym c.check_into-verdict.ensures.0 ∙ told.1))) c.put_two.ensures
+returns-in-Refused c = let a = c.args in
+    puts_same (sym (refused_lines a.job.now a.proposal.now c.in-Refused.number c.in-Refused.place (sym c.check_into-verdict.ensures.0 ∙ c.in-Refused.is))) c.put_two.ensures

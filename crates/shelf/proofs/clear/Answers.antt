@@ -27,10 +27,9 @@ returns-in-Passed c = let a = c.args in
     let counts = a.counts.now in
     let eight : length counts ≡ societies = search rules in
     let both = clear_passed shelf counts (sym c.test_clearing-tested.ensures ∙ c.in-Passed.is) in
-    (c.plain.ensures ∙ ap {B = Answer} (λ (r : Reply). r.answer) both.0, c.clear_spans.ensures ∙ ap (λ (x : List ℕ). cleared x shelf) (sym (take_all societies counts (omega arith))) ∙ both.1)
+    record { answer = c.plain.ensures ∙ ap {B = Answer} (λ (r : Reply). r.answer) both.0; shelf = c.clear_spans.ensures ∙ ap (λ (x : List ℕ). cleared x shelf) (sym (take_all societies counts (omega arith))) ∙ both.1 }
 
 pub returns-in-Refused : goal.returns-in-Refused
 returns-in-Refused c = let a = c.args in
-    let why = c.tested-1.given in
-    let both = clear_refused a.shelf.now a.counts.now why.0.0 why.0.1.0 (sym c.test_clearing-tested.ensures ∙ why.1) in
-    (c.plain-in-Refused.ensures ∙ ap {B = Answer} (λ (r : Reply). r.answer) both.0, both.1)
+    let both = clear_refused a.shelf.now a.counts.now c.in-Refused.number c.in-Refused.place (sym c.test_clearing-tested.ensures ∙ c.in-Refused.is) in
+    record { answer = c.plain-in-Refused.ensures ∙ ap {B = Answer} (λ (r : Reply). r.answer) both.0; shelf = both.1 }

@@ -17,13 +17,12 @@ returns-in-Passed c = let got = c.fetch_pack in
     let a = c.args in
     let o = a.out.now in
     let call = fetch a.job.now (length o) in
-    replied (fetch_reply (layout_in a.shelf.now) a.job.now (length o) a.shelf.now) (said a.shelf.now (own call)) got.result o got.new.out
-    (said_passed a.shelf.now call (sym c.test_shelf-tested.ensures ∙ c.in-Passed.is)) got.ensures.0 got.ensures.1
+    let both = replied (fetch_reply (layout_in a.shelf.now) a.job.now (length o) a.shelf.now) (said a.shelf.now (own call)) got.result o got.new.out
+    (said_passed a.shelf.now call (sym c.test_shelf-tested.ensures ∙ c.in-Passed.is)) got.ensures.answer got.ensures.output in record { answer = both.0; output = both.1 }
 
 pub returns-in-Refused : goal.returns-in-Refused
 returns-in-Refused c = let a = c.args in
     let o = a.out.now in
     let call = fetch a.job.now (length o) in
-    let why = c.tested-1.given in
-    replied (refusal why.0.0 why.0.1.0) (said a.shelf.now (own call)) c.plain.result o o
-    (said_refused a.shelf.now call why.0.0 why.0.1.0 (sym c.test_shelf-tested.ensures ∙ why.1)) c.plain.ensures refl
+    let both = replied (refusal c.in-Refused.number c.in-Refused.place) (said a.shelf.now (own call)) c.plain.result o o
+    (said_refused a.shelf.now call c.in-Refused.number c.in-Refused.place (sym c.test_shelf-tested.ensures ∙ c.in-Refused.is)) c.plain.ensures refl in record { answer = both.0; output = both.1 }

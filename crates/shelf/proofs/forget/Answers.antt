@@ -11,9 +11,8 @@ forget_society-requires c = passed_ready _ (sym c.test_shelf-tested.ensures ∙ 
 pub returns-in-Passed : goal.returns-in-Passed
 returns-in-Passed c = let done = c.forget_society in
     let a = c.args in
-    passed a.shelf.now (forget a.society a.job) done.result (sym c.test_shelf-tested.ensures ∙ c.in-Passed.is) done.new.shelf done.ensures.0 done.ensures.1
+    let both = passed a.shelf.now (forget a.society a.job) done.result (sym c.test_shelf-tested.ensures ∙ c.in-Passed.is) done.new.shelf done.ensures.answer done.ensures.shelf in record { answer = both.0; shelf = both.1 }
 
 pub returns-in-Refused : goal.returns-in-Refused
 returns-in-Refused c = let a = c.args in
-    let why = c.tested-1.given in
-    refused a.shelf.now (forget a.society a.job) c.plain.result why.0.0 why.0.1.0 (sym c.test_shelf-tested.ensures ∙ why.1) c.plain.ensures
+    let both = refused a.shelf.now (forget a.society a.job) c.plain.result c.in-Refused.number c.in-Refused.place (sym c.test_shelf-tested.ensures ∙ c.in-Refused.is) c.plain.ensures in record { answer = both.0; shelf = both.1 }

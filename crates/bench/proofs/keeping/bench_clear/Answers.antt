@@ -13,4 +13,4 @@ pub returns : goal.returns
 returns c = let a = c.args in
     let call = clear a.counts.now in
     with_room (said a.shelf.now call).answer a.answer.now a.shelf.now (after a.shelf.now call) (said_small a.shelf.now call) c.if-answer-ne-ANSWER_WORDS.false c.clear-a.result
-    c.clear-a.ensures.0 c.give.ensures.0 c.give.ensures.1 c.clear-a.ensures.1
+    c.clear-a.ensures.answer c.give.ensures.0 c.give.ensures.1 c.clear-a.ensures.shelf

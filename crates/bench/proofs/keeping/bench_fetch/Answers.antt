@@ -15,4 +15,4 @@ pub returns : goal.returns
 returns c = let a = c.args in
     let call = own (fetch a.job.now (length a.out.now)) in
     with_room (said a.shelf.now call).answer a.answer.now a.out.now (overwritten a.out.now (said a.shelf.now call).values) (said_small a.shelf.now call) c.if-answer-ne-ANSWER_WORDS.false c.fetch-a.result
-    c.fetch-a.ensures.0 c.give.ensures.0 c.give.ensures.1 c.fetch-a.ensures.1
+    c.fetch-a.ensures.answer c.give.ensures.0 c.give.ensures.1 c.fetch-a.ensures.output

@@ -13,4 +13,4 @@ pub returns : goal.returns
 returns c = let a = c.args in
     let call = own (forget a.society a.job) in
     with_room (said a.shelf.now call).answer a.answer.now a.shelf.now (after a.shelf.now call) (said_small a.shelf.now call) c.if-answer-ne-ANSWER_WORDS.false c.forget-a.result
-    c.forget-a.ensures.0 c.give.ensures.0 c.give.ensures.1 c.forget-a.ensures.1
+    c.forget-a.ensures.answer c.give.ensures.0 c.give.ensures.1 c.forget-a.ensures.shelf

@@ -13,4 +13,4 @@ pub returns : goal.returns
 returns c = let a = c.args in
     let call = own (keep a.job.now a.proposal.now) in
     with_room (said a.shelf.now call).answer a.answer.now a.shelf.now (after a.shelf.now call) (said_small a.shelf.now call) c.if-answer-ne-ANSWER_WORDS.false c.keep-a.result
-    c.keep-a.ensures.0 c.give.ensures.0 c.give.ensures.1 c.keep-a.ensures.1
+    c.keep-a.ensures.answer c.give.ensures.0 c.give.ensures.1 c.keep-a.ensures.shelf

@@ -1,15 +1,13 @@
 use Rattle.std.proofs.Common.{◌≡◌, ℕ, ◌+◌, ◌-◌, ◌<◌, List, set, replicate, ℤ, sym, ap, ◌∙◌, ap₂, arith, rules}
 use native.Mathlib.Nat as N
 use lib.Ieee.{Float, of_bits}
-use Rattle.jobs.specs.Words.{cells_of, job_of}
+use Rattle.jobs.specs.Words.{cells_of}
 use Rattle.house.specs.Filled.{filled}
 use Rattle.house.specs.Band.{entries_of, zero64}
 use Rattle.house.proofs.Fills.{filled_more, filled_done}
 use Rattle.house.proofs.Told.{cells_few, order_few, weight_is, weight_small, constant_is, constant_small}
+use Rattle.house.proofs.band.band.Invariants.{lines}
 use Rattle.house.proofs.band.band.Goals as goal
-
-abbrev lines : List ℤ → (n z : ℕ) → ℕ → List Float
-lines ws n z i = entries_of ((job_of ws).weight i) (job_of ws).constant n z i
 
 pub row_of-row-requires : goal.row_of-row-requires
 row_of-row-requires c = omega (arith, order_few c.requires.0, c.requires.2)

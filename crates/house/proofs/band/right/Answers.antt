@@ -1,13 +1,11 @@
-use Rattle.std.proofs.Common.{◌≡◌, ℕ, ◌+◌, ◌-◌, ◌*◌, ◌<◌, List, set, ℤ, ◌*ℤ◌, sym, ap, ◌∙◌, ap₂, arith, rules}
+use Rattle.std.proofs.Common.{◌≡◌, ℕ, ◌+◌, ◌-◌, ◌<◌, List, set, ◌*ℤ◌, sym, ap, ◌∙◌, ap₂, arith, rules}
 use lib.Ieee.{Float, binary64, of_int}
-use Rattle.jobs.specs.Words.{cells_of, job_of}
+use Rattle.jobs.specs.Words.{cells_of}
 use Rattle.house.specs.Filled.{filled}
 use Rattle.house.proofs.Fills.{filled_more, filled_done}
 use Rattle.house.proofs.Told.{cells_few, crude_is, crude_small, weight_is, weight_small}
+use Rattle.house.proofs.band.right.Invariants.{products}
 use Rattle.house.proofs.band.right.Goals as goal
-
-abbrev products : List ℤ → ℕ → Float
-products ws i = of_int binary64 ((job_of ws).weight i *ℤ (job_of ws).crude i)
 
 pub loop-i-init : goal.loop-i-init
 loop-i-init c = let n = c.cells_of-n.result in

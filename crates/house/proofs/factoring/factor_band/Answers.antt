@@ -16,7 +16,7 @@ factor_step-step-requires c = (omega arith, c.requires.1, fewer_rows (omega arit
 
 pub put_made-requires : goal.put_made-requires
 put_made-requires c = let a = c.args in
-    let len = line_length (rows_of a.t1) c.loop-j.d c.loop-j.l a.z c.loop-j.j c.requires.1 c.factor_step-step.ensures in
+    let len = line_length (rows_of a.band) c.loop-j.d c.loop-j.l a.z c.loop-j.j c.requires.1 c.factor_step-step.ensures in
     (omega arith, c.requires.1, fewer_rows (omega arith) (as_long c.requires.2 c.loop-j.invariant.1), len)
 
 pub shape_of-l-in-Thin : goal.shape_of-l-in-Thin
@@ -27,18 +27,18 @@ shape_of-l-in-Thin c = let a = c.args in
 pub returns-in-Thin : goal.returns-in-Thin
 returns-in-Thin c = let a = c.args in
     let step = c.factor_step-step.ensures in
-    let told = line_told (rows_of a.t1) c.loop-j.d c.loop-j.l a.z c.loop-j.j c.requires.1 step in
-    parts (sym (answer_thin (rows_of a.t1) a.z c.loop-j.j c.loop-j.d c.loop-j.l a.n c.loop-j-test.true told.0 told.1 (c.put_made.ensures ∙ told.2) c.in-Thin.is) ∙ c.loop-j.invariant.2)
+    let told = line_told (rows_of a.band) c.loop-j.d c.loop-j.l a.z c.loop-j.j c.requires.1 step in
+    parts (sym (answer_thin (rows_of a.band) a.z c.loop-j.j c.loop-j.d c.loop-j.l a.n c.loop-j-test.true told.0 told.1 (c.put_made.ensures ∙ told.2) c.in-Thin.is) ∙ c.loop-j.invariant.2)
 
 pub loop-j-preserved : goal.loop-j-preserved
 loop-j-preserved c = let a = c.args in
     let j = c.loop-j.j in
     let step = c.factor_step-step.ensures in
     let put = c.put_made.ensures in
-    let told = line_told (rows_of a.t1) c.loop-j.d c.loop-j.l a.z j c.requires.1 step in (
+    let told = line_told (rows_of a.band) c.loop-j.d c.loop-j.l a.z j c.requires.1 step in (
       omega (arith, c.loop-j-test.true),
       ap length put ∙ length-sets c.loop-j.l (start_of a.z j) (take (j - lowest j a.z) c.factor_step-step.result.row.multipliers) ∙ c.loop-j.invariant.1,
-      sym (answer_more (rows_of a.t1) a.z j c.loop-j.d c.loop-j.l a.n c.loop-j-test.true told.0 told.1 (put ∙ told.2) c.in-Accepted.is) ∙ c.loop-j.invariant.2,
+      sym (answer_more (rows_of a.band) a.z j c.loop-j.d c.loop-j.l a.n c.loop-j-test.true told.0 told.1 (put ∙ told.2) c.in-Accepted.is) ∙ c.loop-j.invariant.2,
     )
 
 pub shape_of-l : goal.shape_of-l
@@ -46,4 +46,4 @@ shape_of-l c = c.loop-j.invariant.1
 
 pub returns : goal.returns
 returns c = let a = c.args in
-    parts (sym (factor_done (rows_of a.t1) a.z c.loop-j.j a.n c.loop-j.d c.loop-j.l (omega arith)) ∙ c.loop-j.invariant.2)
+    parts (sym (factor_done (rows_of a.band) a.z c.loop-j.j a.n c.loop-j.d c.loop-j.l (omega arith)) ∙ c.loop-j.invariant.2)

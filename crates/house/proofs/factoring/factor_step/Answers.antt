@@ -17,6 +17,6 @@ unfolding of_bits
 returns c = let a = c.args in
     let low = c.lowest_of-lo.ensures in
     let made = c.factor_row-pivot.ensures in
-    let m = factor_step a.t1 a.d.now a.l.now a.z a.j in
-    let len = made_length a.t1 a.d.now a.l.now a.z a.j in
+    let m = factor_step a.entries a.d.now a.l.now a.z a.j in
+    let len = made_length a.entries a.d.now a.l.now a.z a.j in
     step_answered m made c.value_of-x.ensures (row_put 4 made.1 (ap (λ (k : ℕ). a.j - k) low ∙ sym len) (omega (arith, len)))

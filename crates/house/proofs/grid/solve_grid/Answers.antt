@@ -1,29 +1,30 @@
 -- The factor is that of the grid, and its ending picks the case.
-use Rattle.std.proofs.Common.{◌≡◌, List, length, ap, ◌∙◌, arith}
+use Rattle.std.proofs.Common.{◌≡◌, ℕ, List, ℤ, length, ap, ◌∙◌, arith}
 use lib.Ieee.{Float}
 use Rattle.jobs.specs.Words.{job_of, cells_of}
-use Rattle.factor.specs.Places.{Placed}
+use Rattle.factor.specs.Places.{Starts, Placed}
 use Rattle.factor.proofs.Turns.{factor_length}
 use Rattle.house.specs.Grid.{grid_rows}
+use Rattle.house.specs.Held.{Narrow}
 use Rattle.house.proofs.Told.{cells_few}
 use Rattle.house.proofs.Places.{reach_few}
 use Rattle.house.proofs.Solving.{grid_holds, grid_places}
 use Rattle.house.proofs.grid.solve_grid.Goals as goal
 
 -- there is room for the rows
-places : (s : tie.Start) {l : List Float} → length l ≡ 4584 → Placed s.args.z (cells_of s.args.words.now) s.args.starts.now l
-places s e =
-    let k = s.requires.0.known in
-    grid_places s.requires.1 (cells_few k) (omega (arith, s.requires.0.reach_is, reach_few k s.requires.0.columns_few)) e
+places : {words : List ℤ} {z : ℕ} {starts : List ℕ} {l : List Float} → Narrow words z → Starts z (cells_of words) starts → length l ≡ 4584 → Placed z (cells_of words) starts l
+places narrow s e =
+    let k = narrow.known in
+    grid_places s (cells_few k) (omega (arith, narrow.reach_is, reach_few k narrow.columns_few)) e
 
 pub factor_grid-ending-requires : goal.factor_grid-ending-requires
 factor_grid-ending-requires c = let n = c.cells_of-n.ensures in (
-      c.requires.0,
-      n,
-      rw (← c.order_of.ensures) c.row_of-downs.ensures,
-      rw (← c.across_of.ensures) c.row_of-sides.ensures,
-      rw n (places c (ap length c.requires.3)),
-    )
+  c.requires.0,
+  n,
+  rw (← c.order_of.ensures) c.row_of-downs.ensures,
+  rw (← c.across_of.ensures) c.row_of-sides.ensures,
+  rw n (places c.requires.0 c.requires.1 (ap length c.requires.3)),
+)
 
 pub solve_whole-requires : goal.solve_whole-requires
 solve_whole-requires c = let k = c.requires.0.known in
@@ -32,7 +33,7 @@ solve_whole-requires c = let k = c.requires.0.known in
       omega (arith, n, cells_few k),
       omega (arith, c.requires.0.reach_is, reach_few k c.requires.0.columns_few),
       rw n
-          (places c
+          (places c.requires.0 c.requires.1
           (ap length made
           ∙ factor_length (grid_rows (job_of c.args.words.now)) c.args.z c.cells_of-n.result 0 _ _
           ∙ ap length c.requires.3)),

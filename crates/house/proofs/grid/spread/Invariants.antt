@@ -1,6 +1,5 @@
 -- After o turns the places below o hold their entries, and t and `past` are the whole rows and the cells past them in o.
 use Rattle.std.proofs.Common.{◌≡◌, ◌+◌, ◌-◌, ◌/◌, ◌%◌, ◌≤◌}
-use native.Mathlib.Nat as N
 use Rattle.house.specs.Filled.{filled}
 use Rattle.house.specs.Held.{entry_at}
 use Rattle.house.proofs.grid.spread.Given as goal

@@ -1,16 +1,13 @@
-use Rattle.std.proofs.Common.{◌≡◌, ℕ, ◌+◌, ◌-◌, ◌<◌, List, get_or, set, ℤ, sym, refl, ap, ◌∙◌, arith, lit<, length-set, rules}
-use lib.Ieee.{Float, nan}
+use Rattle.std.proofs.Common.{◌≡◌, ◌+◌, ◌-◌, ◌<◌, get_or, set, ℤ, sym, refl, ap, ◌∙◌, arith, lit<, length-set, rules}
+use lib.Ieee.{nan}
 use Rattle.whole.proofs.Fits.{gives, small_fits}
-use Rattle.jobs.specs.Words.{job_of, cells_of}
+use Rattle.jobs.specs.Words.{cells_of}
 use Rattle.house.specs.Filled.{filled}
-use Rattle.house.specs.Proposal.{value_of}
 use Rattle.house.proofs.Fills.{filled_more, filled_done}
 use Rattle.house.proofs.Told.{cells_few}
 use Rattle.house.proofs.Boxed.{value_small}
+use Rattle.house.proofs.proposal.values_into.Invariants.{values}
 use Rattle.house.proofs.proposal.values_into.Goals as goal
-
-abbrev values : List ℤ → List Float → ℕ → ℤ
-values ws v i = value_of (job_of ws) i (get_or v i nan)
 
 pub loop-i-init : goal.loop-i-init
 loop-i-init c = let e : c.args.n - 0 ≡ c.args.n = omega arith in

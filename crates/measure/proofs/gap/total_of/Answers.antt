@@ -13,7 +13,7 @@ pub tolerance_of-tolerance-requires : goal.tolerance_of-tolerance-requires
 tolerance_of-tolerance-requires c = (c.requires.given.allowed, c.requires.given.laid)
 
 pub loop-i-init : goal.loop-i-init
-loop-i-init c = (omega arith, (record { is = gives c.tolerance_of-tolerance.ensures (tolerance_fits c.requires.given.allowed.tolerance) }, c.no_terms-tally.ensures ∙ tally_starts (job_of c.args.words.now).tolerance _ (cell_term_on c.args.words.now c.args.proposal.now)))
+loop-i-init c = (omega arith, (gives c.tolerance_of-tolerance.ensures (tolerance_fits c.requires.given.allowed.tolerance), c.no_terms-tally.ensures ∙ tally_starts (job_of c.args.words.now).tolerance _ (cell_term_on c.args.words.now c.args.proposal.now)))
 
 pub offset_bounds-parts-i : goal.offset_bounds-parts-i
 offset_bounds-parts-i c = omega (arith, c.requires.n_is, c.requires.given.allowed.cells_few)
@@ -32,7 +32,7 @@ amount_of-requires c = total_amount c.requires (omega arith) c.residual_at-r.ens
 
 pub tallied-tally-requires : goal.tallied-tally-requires
 tallied-tally-requires c = total_tallies (totalling_by (sym (gives refl c.ranges.start)) c.requires) (omega arith) c.residual_at-r.ensures c.cell_term_at-t.ensures
-    c.amount_of.ensures c.loop-i.invariant.1.0 c.loop-i.invariant.1.1
+    c.amount_of.ensures (record { is = c.loop-i.invariant.1.0 }) c.loop-i.invariant.1.1
 
 pub overflow_add-i : goal.overflow_add-i
 overflow_add-i c = omega arith
@@ -46,7 +46,7 @@ loop-i-preserved c = (
   (
     c.loop-i.invariant.1.0,
     total_next (totalling_by (sym (gives refl c.ranges.start)) c.requires) (omega arith) c.residual_at-r.ensures c.cell_term_at-t.ensures
-        c.amount_of.ensures c.loop-i.invariant.1.0 c.loop-i.invariant.1.1 c.tallied-tally.ensures,
+        c.amount_of.ensures (record { is = c.loop-i.invariant.1.0 }) c.loop-i.invariant.1.1 c.tallied-tally.ensures,
   ),
 )
 

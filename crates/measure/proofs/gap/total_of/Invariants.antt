@@ -10,7 +10,7 @@ use Rattle.measure.specs.OnWords.{cell_term_on}
 use Rattle.measure.proofs.gap.total_of.Given as goal
 
 abbrev pub invariant-loop-i : goal.invariant-loop-i
-invariant-loop-i l = (l.i ≤ l.n) × (Holds l.tolerance (job_of l.words).tolerance × (l.tally ≡ tallied_of (job_of l.words).tolerance (to_z w64 l.start) (cell_term_on l.words l.proposal) l.i))
+invariant-loop-i l = (l.i ≤ l.n) × ((l.tolerance ≡ (job_of l.words).tolerance) × (l.tally ≡ tallied_of (job_of l.words).tolerance (l.start) (cell_term_on l.words l.proposal) l.i))
 
 abbrev pub decreases-loop-i : goal.decreases-loop-i
 decreases-loop-i l = l.n - l.i

@@ -7,7 +7,7 @@ use Rattle.measure.specs.Running.{Added}
 use Rattle.measure.proofs.links.scatter.Given as goal
 
 abbrev pub invariant-loop-m : goal.invariant-loop-m
-invariant-loop-m l = (l.m ≤ l.t) × Added (link_terms l.words l.s (to_z w64 l.y) l.m) l.initial.parts l.parts
+invariant-loop-m l = (l.m ≤ l.t) × Added (link_terms l.words l.s (l.y) l.m) l.initial.parts l.parts
 
 abbrev pub decreases-loop-m : goal.decreases-loop-m
 decreases-loop-m l = l.t - l.m

@@ -8,7 +8,7 @@ use Rattle.measure.proofs.Scattered.{terms_of}
 use Rattle.measure.proofs.smooth.give_back.Given as goal
 
 abbrev pub invariant-loop-m : goal.invariant-loop-m
-invariant-loop-m l = (l.m ≤ suc l.z) × Added (terms_of (λ l.m. l.i + l.m * l.stride) (word_at l.row) (to_z w64 l.y) l.m) l.initial.parts l.parts
+invariant-loop-m l = (l.m ≤ suc l.z) × Added (terms_of (λ m. l.i + m * l.stride) (word_at l.row) (l.y) l.m) l.initial.parts l.parts
 
 abbrev pub decreases-loop-m : goal.decreases-loop-m
 decreases-loop-m l = suc l.z - l.m

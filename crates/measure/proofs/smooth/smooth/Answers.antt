@@ -14,7 +14,7 @@ returns-then-k-eq0 c = let e : c.args.k ≡ pos 0 = sym (gives refl c.ranges.k) 
     (none_counted c.args.k e _, none_added c.args.k e _ c.args.parts.now)
 
 pub loop-i-init : goal.loop-i-init
-loop-i-init c = (omega arith, (record { is = sym (sum_zero _) }, smooth_start (smooths_by (sym (gives refl c.ranges.k)) c.requires)))
+loop-i-init c = (omega arith, (sym (sum_zero _), smooth_start (smooths_by (sym (gives refl c.ranges.k)) c.requires)))
 
 pub difference_within-d-requires : goal.difference_within-d-requires
 difference_within-d-requires c = (smooth_differs c.requires c.row_of-row.ensures _ (omega arith), c.requires.width_some)
@@ -35,7 +35,7 @@ pub overflow_mul-rough : goal.overflow_mul-rough
 overflow_mul-rough c = fits_by (square_is c.requires c.row_of-row.ensures (omega arith) c.difference_within-d.ensures) (square_fits c.requires c.row_of-row.ensures (omega arith) c.difference_within-d.ensures)
 
 pub overflow_add-rough : goal.overflow_add-rough
-overflow_add-rough c = adds_fits (squares_adds c.requires) (omega arith) c.loop-i.invariant.1.0 (square_is c.requires c.row_of-row.ensures (omega arith) c.difference_within-d.ensures)
+overflow_add-rough c = adds_fits (squares_adds c.requires) (omega arith) (record { is = c.loop-i.invariant.1.0 }) (square_is c.requires c.row_of-row.ensures (omega arith) c.difference_within-d.ensures)
 
 pub overflow_add-i : goal.overflow_add-i
 overflow_add-i c = omega arith
@@ -47,7 +47,7 @@ pub loop-i-preserved : goal.loop-i-preserved
 loop-i-preserved c = let S = smooths_by (sym (gives refl c.ranges.k)) c.requires in (
       omega arith,
       (
-        adds_next (squares_adds c.requires) (omega arith) c.loop-i.invariant.1.0 (square_is c.requires c.row_of-row.ensures (omega arith) c.difference_within-d.ensures),
+        (adds_next (squares_adds c.requires) (omega arith) (record { is = c.loop-i.invariant.1.0 }) (square_is c.requires c.row_of-row.ensures (omega arith) c.difference_within-d.ensures)).is,
         smooth_next S c.row_of-row.ensures (omega arith) c.difference_within-d.ensures c.loop-i.invariant.1.1
             (gives (double_is S c.row_of-row.ensures (omega arith) c.difference_within-d.ensures) (double_fits S c.row_of-row.ensures (omega arith) c.difference_within-d.ensures))
             c.give_back.ensures,
@@ -55,13 +55,13 @@ loop-i-preserved c = let S = smooths_by (sym (gives refl c.ranges.k)) c.requires
     )
 
 pub overflow_mul-result : goal.overflow_mul-result
-overflow_mul-result c = fits_by (times_is c.requires (gives refl c.ranges.k) (omega arith) c.loop-i.invariant.1.0) (times_fits c.requires)
+overflow_mul-result c = fits_by (times_is c.requires (gives refl c.ranges.k) (omega arith) (record { is = c.loop-i.invariant.1.0 })) (times_fits c.requires)
 
 pub shape_of-parts : goal.shape_of-parts
 shape_of-parts c = c.loop-i.invariant.1.1.long
 
 pub returns : goal.returns
 returns c = (
-      gives (times_is c.requires (gives refl c.ranges.k) (omega arith) c.loop-i.invariant.1.0) (times_fits c.requires),
+      gives (times_is c.requires (gives refl c.ranges.k) (omega arith) (record { is = c.loop-i.invariant.1.0 })) (times_fits c.requires),
       rw (gives {x = c.args.k} refl c.ranges.k) at (smooth_end (smooths_by (sym (gives refl c.ranges.k)) c.requires) (omega arith) c.loop-i.invariant.1.1),
     )

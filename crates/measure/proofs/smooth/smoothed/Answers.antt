@@ -12,16 +12,16 @@ smooth-down-requires c = let H = numbers_shaped c.requires c.order_of-z.ensures 
 
 pub smooth-along-requires : goal.smooth-along-requires
 smooth-along-requires c = let H = numbers_shaped c.requires c.order_of-z.ensures c.across_of-across.ensures c.columns_of-columns.ensures c.constant_of-k.ensures c.second_of-second.ensures in
-    second_call c.requires (smooth-requires c κs) c.smooth-down.ensures.1 (search rules)
+    second_call c.requires (smooth-down-requires c.before.before.before) c.smooth-down.ensures.1 (search rules)
 
 pub overflow_add-result : goal.overflow_add-result
 overflow_add-result c = let H = numbers_shaped c.requires c.order_of-z.ensures c.across_of-across.ensures c.columns_of-columns.ensures c.constant_of-k.ensures c.second_of-second.ensures in
-    two_fit (smooth-requires c c.lifetimes.1) (smooth-requires-2 c c.lifetimes.1) (omega arith) c.smooth-down.ensures.0 c.smooth-along.ensures.0
+    two_fit (smooth-down-requires c.before.before.before.before.before) (smooth-along-requires c.before.before) (omega arith) c.smooth-down.ensures.0 c.smooth-along.ensures.0
 
 pub returns : goal.returns
 returns c = let H = numbers_shaped c.requires c.order_of-z.ensures c.across_of-across.ensures c.columns_of-columns.ensures c.constant_of-k.ensures c.second_of-second.ensures in (
       gives
-          (two_is (smooth-requires c c.lifetimes.1) (smooth-requires-2 c c.lifetimes.1) (omega arith) c.smooth-down.ensures.0 c.smooth-along.ensures.0
+          (two_is (smooth-down-requires c.before.before.before.before.before) (smooth-along-requires c.before.before) (omega arith) c.smooth-down.ensures.0 c.smooth-along.ensures.0
           ∙ both_rough c.requires c.order_of-z.ensures c.across_of-across.ensures c.columns_of-columns.ensures c.constant_of-k.ensures c.second_of-second.ensures)
           (rough_fits c.requires.given),
       both_added c.requires c.order_of-z.ensures c.across_of-across.ensures c.columns_of-columns.ensures c.constant_of-k.ensures c.second_of-second.ensures c.smooth-down.ensures.1 c.smooth-along.ensures.1,

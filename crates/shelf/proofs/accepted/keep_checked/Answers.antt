@@ -21,26 +21,23 @@ pub slice_bounds-keep_table-end-in-Accepted : goal.slice_bounds-keep_table-end-i
 slice_bounds-keep_table-end-in-Accepted c = let a = c.args in lent_length 280 (proposal_words a.job.now a.proposal.now) _ c.check_into-verdict.ensures.2
 
 pub keep_table-requires : goal.keep_table-requires
-keep_table-requires c = let told = c.verdict-1.given in
-    let a = c.args in
-    (search rules, given_packs a.job.now a.proposal.now told.0.0 told.0.1.0 (sym c.check_into-verdict.ensures.0 ∙ told.1) c.check_into-verdict.new.words c.check_into-verdict.ensures.1 c.check_into-verdict.new.values c.check_into-verdict.ensures.2)
+keep_table-requires c = let a = c.args in
+    (search rules, given_packs a.job.now a.proposal.now c.in-Accepted.loss c.in-Accepted.gap (sym c.check_into-verdict.ensures.0 ∙ c.in-Accepted.is) c.check_into-verdict.new.words c.check_into-verdict.ensures.1 c.check_into-verdict.new.values c.check_into-verdict.ensures.2)
 
 pub returns-in-Accepted : goal.returns-in-Accepted
 returns-in-Accepted c = let known = c.in-Accepted.known_told-1-own.given in
-    let told = c.verdict-1.given in
     let a = c.args in
-    let F = told.0.0 in
-    let G = told.0.1.0 in
+    let F = c.in-Accepted.loss in
+    let G = c.in-Accepted.gap in
     let words = c.check_into-verdict.new.words in
     let rates = c.check_into-verdict.new.values in
     let f = to_z-of_z {w = w64} {z = F} (record { sfits = known.0.1 }) in
     let g = to_z-of_z {w = w64} {z = G} (record { sfits = known.1.0.1 }) in
-    kept_packs a.job.now a.proposal.now F G (sym c.check_into-verdict.ensures.0 ∙ told.1) words c.check_into-verdict.ensures.1 rates c.check_into-verdict.ensures.2
-    (layout_in a.shelf.now) c.keep_table.result (c.keep_table.ensures.0 ∙ ap₂ {C = Answer} (λ (x y : ℤ). record { number = 0; place = 0; loss = nat_abs x; gap = nat_abs y }) f g)
+    let both = kept_packs a.job.now a.proposal.now F G (sym c.check_into-verdict.ensures.0 ∙ c.in-Accepted.is) words c.check_into-verdict.ensures.1 rates c.check_into-verdict.ensures.2
+    (layout_in a.shelf.now) c.keep_table.result (c.keep_table.ensures.answer ∙ ap₂ {C = Answer} (λ (x y : ℤ). record { number = 0; place = 0; loss = nat_abs x; gap = nat_abs y }) f g)
     a.shelf.now c.keep_table.new.shelf
-    (c.keep_table.ensures.1 ∙ ap₂ (λ (x y : ℤ). table_kept (layout_in a.shelf.now) words (nat_abs x) (nat_abs y) rates a.shelf.now) f g)
+    (c.keep_table.ensures.shelf ∙ ap₂ (λ (x y : ℤ). table_kept (layout_in a.shelf.now) words (nat_abs x) (nat_abs y) rates a.shelf.now) f g) in record { answer = both.0; shelf = both.1 }
 
 pub returns-in-Refused : goal.returns-in-Refused
-returns-in-Refused c = let told = c.verdict-in-Refused-1.given in
-    let a = c.args in
-    refused_packs (layout_in a.shelf.now) a.job.now a.proposal.now told.0.0 told.0.1.0 (sym c.check_into-verdict.ensures.0 ∙ told.1) c.plain.result c.plain.ensures a.shelf.now
+returns-in-Refused c = let a = c.args in
+    let both = refused_packs (layout_in a.shelf.now) a.job.now a.proposal.now c.in-Refused.number c.in-Refused.place (sym c.check_into-verdict.ensures.0 ∙ c.in-Refused.is) c.plain.result c.plain.ensures a.shelf.now in record { answer = both.0; shelf = both.1 }

@@ -39,8 +39,8 @@ returns-in-At c = let got = c.fetch_at in
     let j = job_of a.words.now in
     let p = c.in-At.p in
     let e = sym (ap {B = Slot} (λ (x : ℕ). lowest (has_job x) slot_words a.count s) c.count_at-number.ensures) ∙ sym c.find_job-found.ensures ∙ c.in-At.is in
-    replied (fetch_at j (length o) (drop (slot_words * p) s)) (fetch_in slot_words a.count j (length o) s) got.result o got.new.out
-    (fetch_found slot_words a.count j s (length o) p e) got.ensures.0 got.ensures.1
+    let both = replied (fetch_at j (length o) (drop (slot_words * p) s)) (fetch_in slot_words a.count j (length o) s) got.result o got.new.out
+    (fetch_found slot_words a.count j s (length o) p e) got.ensures.answer got.ensures.output in record { answer = both.0; output = both.1 }
 
 pub returns-in-Nowhere : goal.returns-in-Nowhere
 returns-in-Nowhere c = let a = c.args in
@@ -48,4 +48,4 @@ returns-in-Nowhere c = let a = c.args in
     let o = a.out.now in
     let j = job_of a.words.now in
     let e = sym (ap {B = Slot} (λ (x : ℕ). lowest (has_job x) slot_words a.count s) c.count_at-number.ensures) ∙ sym c.find_job-found.ensures ∙ c.in-Nowhere.is in
-    replied (refusal 12 0) (fetch_in slot_words a.count j (length o) s) c.plain.result o o (fetch_none slot_words a.count j s (length o) e) c.plain.ensures refl
+    let both = replied (refusal 12 0) (fetch_in slot_words a.count j (length o) s) c.plain.result o o (fetch_none slot_words a.count j s (length o) e) c.plain.ensures refl in record { answer = both.0; output = both.1 }

@@ -21,13 +21,12 @@ returns-in-Done c = let got = c.fetch_part in
     let read = c.read-read in
     let words = read.new.words in
     let k = c.in-Done.k in
-    replied (fetch_from (layout_in a.shelf.now) (job_of (take k words)) (length o) a.shelf.now) (fetch_reply (layout_in a.shelf.now) a.job.now (length o) a.shelf.now) got.result o got.new.out
-    (fetch_read a.job.now (replicate 2092 (pos 0)) (length-replicate 2092 (pos 0)) read.ensures.0 read.ensures.1 (layout_in a.shelf.now) (length o) a.shelf.now c.in-Done.is) got.ensures.0 got.ensures.1
+    let both = replied (fetch_from (layout_in a.shelf.now) (job_of (take k words)) (length o) a.shelf.now) (fetch_reply (layout_in a.shelf.now) a.job.now (length o) a.shelf.now) got.result o got.new.out
+    (fetch_read a.job.now (replicate 2092 (pos 0)) (length-replicate 2092 (pos 0)) read.ensures.0 read.ensures.1 (layout_in a.shelf.now) (length o) a.shelf.now c.in-Done.is) got.ensures.answer got.ensures.output in record { answer = both.0; output = both.1 }
 
 pub returns-in-Refused : goal.returns-in-Refused
 returns-in-Refused c = let a = c.args in
     let o = a.out.now in
     let read = c.read-read in
-    let told = c.read-in-Refused-1.given in
-    replied (refusal told.0.0 told.0.1.0) (fetch_reply (layout_in a.shelf.now) a.job.now (length o) a.shelf.now) c.plain.result o o
-    (fetch_unread a.job.now (replicate 2092 (pos 0)) (length-replicate 2092 (pos 0)) read.ensures.0 read.ensures.1 (layout_in a.shelf.now) (length o) a.shelf.now told.1) c.plain.ensures refl
+    let both = replied (refusal c.in-Refused.number c.in-Refused.place) (fetch_reply (layout_in a.shelf.now) a.job.now (length o) a.shelf.now) c.plain.result o o
+    (fetch_unread a.job.now (replicate 2092 (pos 0)) (length-replicate 2092 (pos 0)) read.ensures.0 read.ensures.1 (layout_in a.shelf.now) (length o) a.shelf.now c.in-Refused.is) c.plain.ensures refl in record { answer = both.0; output = both.1 }

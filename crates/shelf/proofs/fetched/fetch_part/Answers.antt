@@ -9,4 +9,5 @@ pub fetch_society-requires : goal.fetch_society-requires
 fetch_society-requires c = let e : c.args.k - 0 ≡ c.args.k = omega arith in let p = c.requires in (p.0, rw e p.2)
 
 pub returns : goal.returns
-returns c = let e : c.args.k - 0 ≡ c.args.k = omega arith in rw e at c.fetch_society.ensures
+returns c = let e : c.args.k - 0 ≡ c.args.k = omega arith in
+    record { answer = rw e at c.fetch_society.ensures.answer; output = rw e at c.fetch_society.ensures.output }

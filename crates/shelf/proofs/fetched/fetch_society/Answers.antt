@@ -29,8 +29,8 @@ returns c = let got = c.fetch_in in
     let j = job_of args.words.now in
     let a = own.result.start in
     let e = own.result.end in
-    let starts : a ≡ l.start j.society = own.ensures.0 ∙ ap (λ (x : ℕ). l.start x) society in
-    let counts : own.result.count ≡ l.count j.society = own.ensures.1.0 ∙ ap (λ (x : ℕ). l.count x) society in
-    let span = lent_span l j.society shelf a e starts (own.ensures.1.1.0 ∙ ap (λ (n : ℕ). a + slot_words * n) counts) c.requires.1.0.society in
-    replied (fetch_in slot_words own.result.count j (length o) (mid_of a (e - a) shelf)) (fetch_from l j (length o) shelf) got.result o got.new.out
-    (ap {B = Reply} (λ (n : ℕ). fetch_in slot_words n j (length o) (mid_of a (e - a) shelf)) counts ∙ ap {B = Reply} (λ (x : List ℕ). fetch_in slot_words (l.count j.society) j (length o) x) span) got.ensures.0 got.ensures.1
+    let starts : a ≡ l.start j.society = own.ensures.start ∙ ap (λ (x : ℕ). l.start x) society in
+    let counts : own.result.count ≡ l.count j.society = own.ensures.count ∙ ap (λ (x : ℕ). l.count x) society in
+    let span = lent_span l j.society shelf a e starts (own.ensures.end ∙ ap (λ (n : ℕ). a + slot_words * n) counts) c.requires.1.0.society in
+    let both = replied (fetch_in slot_words own.result.count j (length o) (mid_of a (e - a) shelf)) (fetch_from l j (length o) shelf) got.result o got.new.out
+    (ap {B = Reply} (λ (n : ℕ). fetch_in slot_words n j (length o) (mid_of a (e - a) shelf)) counts ∙ ap {B = Reply} (λ (x : List ℕ). fetch_in slot_words (l.count j.society) j (length o) x) span) got.ensures.answer got.ensures.output in record { answer = both.0; output = both.1 }

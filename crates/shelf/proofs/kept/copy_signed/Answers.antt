@@ -3,7 +3,7 @@ use mathlib.Core.List.{List, ◌++◌, map}
 use Prim.Native.Nat.{ℕ, ◌-◌, ◌≤◌, ◌<◌}
 use native.Mathlib.Omega.{arith}
 use lib.IntN.{ℤ, pos}
-use lib.ListN.{length, set, get_or, drop, length-set, length_map}
+use lib.ListN.{length, set, get_or, drop, length-set, length-map}
 use mir.Syntax.{w64}
 use mir.Val.{to_z, of_z}
 use Rattle.slots.proofs.Copied.{copied, copy_more, copy_all}
@@ -22,7 +22,7 @@ loop-i-preserved c = let numbers = c.args.numbers.now in
     let d = c.args.words.now in
     let i = c.loop-i.i in
     let s : List ℤ = map pos numbers in
-    let inside : i < length (map pos numbers) = omega (arith, length_map numbers pos) in
+    let inside : i < length (map pos numbers) = omega (arith, length-map numbers pos) in
     let room : i < length d = omega (arith, c.requires) in
     let small : get_or numbers i 0 ≤ 4294967295 = omega (arith, c.shared_slice_known-in-loop-i-1.given i) in (
       omega arith,
@@ -38,5 +38,5 @@ shape_of-words c = c.loop-i.invariant.1
 pub returns : goal.returns
 returns c = let numbers = c.args.numbers.now in
     let d = c.args.words.now in
-    let all : c.loop-i.i ≡ length (map pos numbers) = omega (arith, length_map numbers pos) in
-    c.loop-i.invariant.2 ∙ copy_all (map pos numbers) d c.loop-i.i all ∙ ap (λ (n : ℕ). map pos numbers ++ drop n d) (length_map numbers pos)
+    let all : c.loop-i.i ≡ length (map pos numbers) = omega (arith, length-map numbers pos) in
+    c.loop-i.invariant.2 ∙ copy_all (map pos numbers) d c.loop-i.i all ∙ ap (λ (n : ℕ). map pos numbers ++ drop n d) (length-map numbers pos)

@@ -14,8 +14,8 @@ pub returns-then-out-n : goal.returns-then-out-n
 returns-then-out-n c = let a = c.args in
     let o = a.out.now in
     let v = a.values.now in
-    replied (refusal 13 (length v)) (handed (length o) v (Accepted a.loss a.gap)) c.plain.result o o
-    (hand_short (length o) v a.loss a.gap c.if-out-n.true) c.plain.ensures refl
+    let both = replied (refusal 13 (length v)) (handed (length o) v (Accepted a.loss a.gap)) c.plain.result o o
+    (hand_short (length o) v a.loss a.gap c.if-out-n.true) c.plain.ensures refl in record { answer = both.0; output = both.1 }
 
 pub returns : goal.returns
 returns c = let a = c.args in
@@ -25,5 +25,6 @@ returns c = let a = c.args in
     let gap = c.size_of-g in
     let f = loss.ensures ∙ ap (λ (z : ℤ). nat_abs z) (to_z-of_z c.ranges.loss) in
     let g = gap.ensures ∙ ap (λ (z : ℤ). nat_abs z) (to_z-of_z c.ranges.gap) in
-    replied (record { answer = record { number = 0; place = length v; loss = loss.result; gap = gap.result }; values = v }) (handed (length o) v (Accepted a.loss a.gap)) _ o c.copy_words.new.dst
-    (hand_given (length o) v a.loss a.gap c.if-out-n.false loss.result gap.result f g) refl c.copy_words.ensures
+    let both = replied (record { answer = record { number = 0; place = length v; loss = loss.result; gap = gap.result }; values = v }) (handed (length o) v (Accepted a.loss a.gap)) (record { number = 0; place = length v; loss = loss.result; gap = gap.result }) o c.copy_words.new.dst
+    (hand_given (length o) v a.loss a.gap c.if-out-n.false loss.result gap.result f g) refl c.copy_words.ensures in
+    record { answer = both.0; output = both.1 }

@@ -14,7 +14,7 @@ returns c = let kept = c.keep_in in
     let shelf = args.shelf.now in
     let a = own.result.start in
     let e = own.result.end in
-    let count = own.ensures.1.0 in
+    let count = own.ensures.count in
     let x = slot_of slot_words args.job args.loss args.gap args.values.now args.multipliers.now in
-    keep_within (layout_in shelf) args.society shelf a e own.ensures.0 (own.ensures.1.1.0 ∙ ap (λ (n : ℕ). a + slot_words * n) count) c.requires.1 args.job x kept.new.span
+    keep_within (layout_in shelf) args.society shelf a e own.ensures.start (own.ensures.end ∙ ap (λ (n : ℕ). a + slot_words * n) count) c.requires.1 args.job x kept.new.span
     (kept.ensures ∙ ap (λ (n : ℕ). kept_in slot_words n args.job x (mid_of a (e - a) shelf)) count)

@@ -14,8 +14,8 @@ drop_slot-requires c = let a = c.args in
 pub returns-in-At : goal.returns-in-At
 returns-in-At c = let a = c.args in
     let both = forget_at slot_words a.count a.job a.span.now c.in-At.p c.plain.result (sym c.find_job-found.ensures ∙ c.in-At.is) c.plain.ensures in
-    (both.0, c.drop_slot.ensures ∙ both.1)
+    record { answer = both.0; span = c.drop_slot.ensures ∙ both.1 }
 
 pub returns-in-Nowhere : goal.returns-in-Nowhere
 returns-in-Nowhere c = let a = c.args in
-    forget_none slot_words a.count a.job a.span.now c.plain-in-Nowhere.result (sym c.find_job-found.ensures ∙ c.in-Nowhere.is) c.plain-in-Nowhere.ensures
+    let both = forget_none slot_words a.count a.job a.span.now c.plain-in-Nowhere.result (sym c.find_job-found.ensures ∙ c.in-Nowhere.is) c.plain-in-Nowhere.ensures in record { answer = both.0; span = both.1 }

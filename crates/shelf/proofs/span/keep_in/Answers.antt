@@ -7,16 +7,14 @@ use Rattle.shelf.proofs.Picked.{kept_at, kept_none}
 use Rattle.shelf.proofs.span.keep_in.Goals as goal
 
 pub put_at-requires : goal.put_at-requires
-put_at-requires c = let at = c.found-1.given in
-    let a = c.args in
-    let below = for_below slot_words a.count a.job a.span.now at.0.0 (sym c.slot_for-found.ensures ∙ at.1) in
+put_at-requires c = let a = c.args in
+    let below = for_below slot_words a.count a.job a.span.now c.in-At.p (sym c.slot_for-found.ensures ∙ c.in-At.is) in
     (omega arith, c.requires.2, c.requires.3)
 
 pub returns-in-At : goal.returns-in-At
-returns-in-At c = let at = c.found-1.given in
-    let a = c.args in
+returns-in-At c = let a = c.args in
     c.put_at.ensures
-    ∙ kept_at slot_words a.count a.job a.span.now (slot_of slot_words a.job a.loss a.gap a.values.now a.multipliers.now) at.0.0 (sym c.slot_for-found.ensures ∙ at.1)
+    ∙ kept_at slot_words a.count a.job a.span.now (slot_of slot_words a.job a.loss a.gap a.values.now a.multipliers.now) c.in-At.p (sym c.slot_for-found.ensures ∙ c.in-At.is)
 
 pub returns-in-Nowhere : goal.returns-in-Nowhere
 returns-in-Nowhere c = let a = c.args in

@@ -5,8 +5,7 @@ use crate::answers::{ANSWER_WORDS, NO_ANSWER, give, of_outcome};
 use imports::Given;
 
 // Write the job pack of a claims list to the output.
-#[unsafe(no_mangle)]
-pub extern "C" fn bench_import(
+pub fn bench_import(
     text: &[u8],
     divisor: u64,
     society: u64,
@@ -39,8 +38,7 @@ pub extern "C" fn bench_import(
 }
 
 // Write a table to the output as a list, from a first age on.
-#[unsafe(no_mangle)]
-pub extern "C" fn bench_export(rates: &[u32], first: u64, out: &mut [u8], answer: &mut [u64]) -> u64
+pub fn bench_export(rates: &[u32], first: u64, out: &mut [u8], answer: &mut [u64]) -> u64
     ensures { ExportSays rates.now first out.old answer.old result answer.new out.new }
 {
     if answer.len() != ANSWER_WORDS {
@@ -51,8 +49,7 @@ pub extern "C" fn bench_export(rates: &[u32], first: u64, out: &mut [u8], answer
 }
 
 // Hand out the values of an export.
-#[unsafe(no_mangle)]
-pub extern "C" fn bench_rates(text: &[u8], out: &mut [u32], answer: &mut [u64]) -> u64
+pub fn bench_rates(text: &[u8], out: &mut [u32], answer: &mut [u64]) -> u64
     ensures { RatesSays text.now out.old answer.old result answer.new out.new }
 {
     if answer.len() != ANSWER_WORDS {

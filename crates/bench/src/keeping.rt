@@ -5,13 +5,7 @@ ghost use Rattle.bench.specs.Calls.{ShelfSays, FetchSays};
 use crate::answers::{ANSWER_WORDS, NO_ANSWER, give};
 
 // Check a proposal pack against a job pack and, where it is accepted, keep its table for the society that the job pack names.
-#[unsafe(no_mangle)]
-pub extern "C" fn bench_keep(
-    shelf: &mut [u32],
-    job: &[u8],
-    proposal: &[u8],
-    answer: &mut [u64],
-) -> u64
+pub fn bench_keep(shelf: &mut [u32], job: &[u8], proposal: &[u8], answer: &mut [u64]) -> u64
     ensures { ShelfSays (own (keep job.now proposal.now)) shelf.old answer.old result answer.new shelf.new }
 {
     if answer.len() != ANSWER_WORDS {
@@ -22,8 +16,7 @@ pub extern "C" fn bench_keep(
 }
 
 // Hand out the values that are kept under a job pack's number, where the check accepts them for that job.
-#[unsafe(no_mangle)]
-pub extern "C" fn bench_fetch(shelf: &[u32], job: &[u8], out: &mut [u32], answer: &mut [u64]) -> u64
+pub fn bench_fetch(shelf: &[u32], job: &[u8], out: &mut [u32], answer: &mut [u64]) -> u64
     ensures { FetchSays shelf.now job.now out.old answer.old result answer.new out.new }
 {
     if answer.len() != ANSWER_WORDS {
@@ -34,8 +27,7 @@ pub extern "C" fn bench_fetch(shelf: &[u32], job: &[u8], out: &mut [u32], answer
 }
 
 // Forget the table that is kept for a society under a job's number.
-#[unsafe(no_mangle)]
-pub extern "C" fn bench_forget(shelf: &mut [u32], society: u32, job: u32, answer: &mut [u64]) -> u64
+pub fn bench_forget(shelf: &mut [u32], society: u32, job: u32, answer: &mut [u64]) -> u64
     ensures { ShelfSays (own (forget society job)) shelf.old answer.old result answer.new shelf.new }
 {
     if answer.len() != ANSWER_WORDS {
@@ -46,8 +38,7 @@ pub extern "C" fn bench_forget(shelf: &mut [u32], society: u32, job: u32, answer
 }
 
 // The row becomes the counts, and every word of their spans 0.
-#[unsafe(no_mangle)]
-pub extern "C" fn bench_clear(shelf: &mut [u32], counts: &[u32; 8], answer: &mut [u64]) -> u64
+pub fn bench_clear(shelf: &mut [u32], counts: &[u32; 8], answer: &mut [u64]) -> u64
     ensures { ShelfSays (clear counts.now) shelf.old answer.old result answer.new shelf.new }
 {
     if answer.len() != ANSWER_WORDS {

@@ -1,5 +1,5 @@
-// The C boundary: the thirteen calls of the portal. Each tests its answer slice before all else and hands what it is lent to a proved function; none asks
-// its caller to have tested anything.
+// The thirteen calls of the portal, which `bench_c` exports to C. Each tests its answer slice before all else and hands what it is lent to a proved
+// function; none asks its caller to have tested anything.
 #![tactic(auto)]
 
 mod answers;

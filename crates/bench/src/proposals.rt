@@ -4,8 +4,7 @@ ghost use Rattle.bench.specs.Calls.{CheckSays, TermsSays, ProposeSays, ProposeLi
 use crate::answers::{ANSWER_WORDS, NO_ANSWER, give, of_offer, of_outcome, of_verdict};
 
 // Check a proposal pack against a job pack.
-#[unsafe(no_mangle)]
-pub extern "C" fn bench_check(job: &[u8], proposal: &[u8], answer: &mut [u64]) -> u64
+pub fn bench_check(job: &[u8], proposal: &[u8], answer: &mut [u64]) -> u64
     ensures { CheckSays job.now proposal.now answer.old result answer.new }
 {
     if answer.len() != ANSWER_WORDS {
@@ -16,13 +15,7 @@ pub extern "C" fn bench_check(job: &[u8], proposal: &[u8], answer: &mut [u64]) -
 }
 
 // Hand out the terms of the gap of a proposal pack against a job pack, three words a place: term, residual and side.
-#[unsafe(no_mangle)]
-pub extern "C" fn bench_terms(
-    job: &[u8],
-    proposal: &[u8],
-    out: &mut [i64],
-    answer: &mut [u64],
-) -> u64
+pub fn bench_terms(job: &[u8], proposal: &[u8], out: &mut [i64], answer: &mut [u64]) -> u64
     ensures { TermsSays job.now proposal.now out.old answer.old result answer.new out.new }
 {
     if answer.len() != ANSWER_WORDS {
@@ -33,8 +26,7 @@ pub extern "C" fn bench_terms(
 }
 
 // Write the house proposal for a job pack to the output.
-#[unsafe(no_mangle)]
-pub extern "C" fn bench_propose(job: &[u8], out: &mut [u8], answer: &mut [u64]) -> u64
+pub fn bench_propose(job: &[u8], out: &mut [u8], answer: &mut [u64]) -> u64
     ensures { ProposeSays job.now out.old answer.old result answer.new out.new }
 {
     if answer.len() != ANSWER_WORDS {
@@ -45,13 +37,7 @@ pub extern "C" fn bench_propose(job: &[u8], out: &mut [u8], answer: &mut [u64]) 
 }
 
 // Write the house proposal that honours links to the output: that of the first pass, among so many, that the check accepts.
-#[unsafe(no_mangle)]
-pub extern "C" fn bench_propose_linked(
-    job: &[u8],
-    passes: u64,
-    out: &mut [u8],
-    answer: &mut [u64],
-) -> u64
+pub fn bench_propose_linked(job: &[u8], passes: u64, out: &mut [u8], answer: &mut [u64]) -> u64
     ensures { ProposeLinkedSays job.now passes out.old answer.old result answer.new out.new }
 {
     if answer.len() != ANSWER_WORDS {

@@ -4,8 +4,7 @@ ghost use Rattle.bench.specs.Calls.{ReadSays, WriteSays};
 use crate::answers::{ANSWER_WORDS, NO_ANSWER, give, of_outcome};
 
 // Hand out the words of a job pack, in pack order.
-#[unsafe(no_mangle)]
-pub extern "C" fn bench_read(job: &[u8], words: &mut [i64], answer: &mut [u64]) -> u64
+pub fn bench_read(job: &[u8], words: &mut [i64], answer: &mut [u64]) -> u64
     ensures { ReadSays job.now words.old answer.old result answer.new words.new }
 {
     if answer.len() != ANSWER_WORDS {
@@ -16,8 +15,7 @@ pub extern "C" fn bench_read(job: &[u8], words: &mut [i64], answer: &mut [u64]) 
 }
 
 // Write the pack of a job's words to the output.
-#[unsafe(no_mangle)]
-pub extern "C" fn bench_write(words: &[i64], out: &mut [u8], answer: &mut [u64]) -> u64
+pub fn bench_write(words: &[i64], out: &mut [u8], answer: &mut [u64]) -> u64
     ensures { WriteSays words.now out.old answer.old result answer.new out.new }
 {
     if answer.len() != ANSWER_WORDS {

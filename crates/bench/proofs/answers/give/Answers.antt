@@ -8,4 +8,4 @@ code-wraps place number = omega arith
 
 pub returns : goal.returns
 returns c = let a = c.args.a in
-    (c.wrapping_add_u64.ensures ∙ code-wraps a.place a.number, four c.args.answer.now a.number a.place a.loss a.gap c.requires)
+    (c.wrapping_add_u64.ensures.value ∙ code-wraps a.place a.number, four c.args.answer.now a.number a.place a.loss a.gap c.requires)

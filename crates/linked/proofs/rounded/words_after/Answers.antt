@@ -1,21 +1,17 @@
 use mathlib.Core.Path.{◌≡◌, sym, ap, ◌∙◌}
-use Prim.Native.Nat.{ℕ, ◌+◌, ◌-◌}
+use Prim.Native.Nat.{◌+◌, ◌-◌}
 use native.Mathlib.Omega.{arith}
-use mathlib.Core.List.{List}
 use lib.Dec.{lit<}
 use lib.IntN.{ℤ}
 use lib.ListN.{get_or, set}
-use lib.Ieee.{Float, nan}
+use lib.Ieee.{nan}
 use Rattle.whole.proofs.Fits.{gives, small_fits}
 use Rattle.house.specs.Filled.{filled}
 use Rattle.house.proofs.Fills.{filled_more, filled_done}
-use Rattle.linked.specs.Proposal.{multiplier_word}
 use Rattle.passes.proofs.Passing.{cells_most, links_most}
 use Rattle.linked.proofs.Words.{multiplier_small}
+use Rattle.linked.proofs.rounded.words_after.Invariants.{multipliers}
 use Rattle.linked.proofs.rounded.words_after.Goals as goal
-
-abbrev multipliers : List Float → (n : ℕ) → ℕ → ℤ
-multipliers y n i = multiplier_word (get_or y (i - n) nan)
 
 pub overflow_add-count : goal.overflow_add-count
 overflow_add-count c = omega (arith, cells_most c.requires, links_most c.requires)

@@ -1,5 +1,4 @@
 use mathlib.Core.Path.{◌≡◌}
-use Prim.Native.Nat.{◌-◌}
 use native.Mathlib.Omega.{arith}
 use Rattle.jobs.specs.Words.{job_of}
 use Rattle.measure.proofs.Lowest.{passed_start, passed_next}

@@ -1,10 +1,12 @@
 use mathlib.Core.Path.{◌≡◌, sym, ap, ap₂, ◌∙◌}
-use Prim.Native.Nat.{ℕ, ◌+◌, ◌-◌, ◌*◌, ◌<◌}
+use Prim.Native.Nat.{ℕ, ◌+◌, ◌-◌, ◌*◌, ◌<◌, ◌≤◌}
 use mathlib.Core.List.{List}
+use lib.IntN.{ℤ}
 use lib.ListN.{set}
 use lib.Ieee.{Float, of_bits}
 use native.Mathlib.Omega.{arith}
-use Rattle.jobs.specs.Words.{count_at}
+use Rattle.jobs.specs.Words.{count_at, cells_of}
+use Rattle.measure.specs.Given.{LinkAt}
 use Rattle.measure.proofs.Scattered.{link_counts}
 use Rattle.passes.specs.Hildreth.{placed_from}
 use Rattle.passes.specs.OnWords.{link_at}
@@ -26,19 +28,14 @@ pub coefficient_at-a-requires : goal.coefficient_at-a-requires
 coefficient_at-a-requires c = (c.requires.0, omega (arith, c.count_at-t.ensures))
 
 -- the cell that a term names is one of the job's
-cell : (c : tie.After-coefficient-at invariant-loop decreases-loop)
-    → let s = c.before.before.before.before.before in
-    count_at s.args.words.now (s.args.s + 1 + 2 * c.before.before.before.loop.m) < 120
-cell c =
-    let s = c.before.before.before.before.before in
-    let inside = s.requires.0.cell_inside c.before.before.before.loop.m (omega (arith, c.before.before.before.before.count_at.ensures)) in
-    omega (arith, inside, s.requires.1)
+cell : {words : List ℤ} {s m : ℕ} → LinkAt words s → cells_of words ≤ 120 → m < count_at words s → count_at words (s + 1 + 2 * m) < 120
+cell {words} {s} {m} k few h = let inside = k.cell_inside m h in omega (arith, inside, few)
 
 pub offset_bounds-made-cell : goal.offset_bounds-made-cell
-offset_bounds-made-cell c = omega (arith, c.cell_at-cell.ensures, cell c)
+offset_bounds-made-cell c = omega (arith, c.cell_at-cell.ensures, cell {m = c.loop-m.m} c.requires.0 c.requires.1 (omega (arith, c.count_at-t.ensures)))
 
 pub bounds-made-cell : goal.bounds-made-cell
-bounds-made-cell c = omega (arith, c.cell_at-cell.ensures, cell c)
+bounds-made-cell c = omega (arith, c.cell_at-cell.ensures, cell {m = c.loop-m.m} c.requires.0 c.requires.1 (omega (arith, c.count_at-t.ensures)))
 
 pub loop-m-preserved : goal.loop-m-preserved
 loop-m-preserved c = let k = link_at c.args.words.now c.args.s in

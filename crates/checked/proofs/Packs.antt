@@ -7,7 +7,7 @@ use lib.Dec.{eqb}
 use lib.IntN.{ℤ, pos, nat_abs}
 use lib.ListN.{length, replicate}
 use lib.Seq.{sets}
-use Rattle.numbers.specs.Choice.{if◌then◌else◌}
+use Rattle.std.specs.Prelude.{if◌then◌else◌}
 use Rattle.fields.specs.Table.{grid_field}
 use Rattle.packs.specs.declared.Outcome.{Outcome}
 use Rattle.jobs.specs.Words.{count_at, cells_of, head_words, links_of, job_of}

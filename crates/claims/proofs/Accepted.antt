@@ -9,7 +9,7 @@ use borrow.Author.Tests.{le-leb, eqb-true}
 use lib.Dec.{leb, eqb}
 use lib.IntN.{ℤ}
 use lib.Signed.{◌≤ℤ◌}
-use Rattle.numbers.specs.Choice.{if◌then◌else◌}
+use Rattle.std.specs.Prelude.{cond}
 use Rattle.fields.specs.Table.{values_from}
 use Rattle.packs.specs.declared.Outcome.{Outcome}
 use Rattle.packs.specs.declared.Outcome.TheVariants.{Done, Refused as Refuses}
@@ -79,12 +79,11 @@ module _ (job proposal : List ℕ) where
   -- what a refusal says, by whether its number is at most 5, or is 6, 7, 8 or 9; and what any verdict says
   abbrev Refusal : (five six seven eight nine : Bool) (number place : ℕ) → Type 0
   Refusal five six seven eight nine number place =
-      if five then OneToFive number × ((read_job job).outcome ≡ Refuses number place) else
-      if six then Reads (read_job job).outcome × ((proposal_in job proposal).outcome ≡ Refuses number place) else
-      if seven then Outside job proposal place else
-      if eight then Broken job proposal place else
-      if nine then Above job proposal place else
-      ⊥
+      cond five (OneToFive number × ((read_job job).outcome ≡ Refuses number place))
+      (cond six (Reads (read_job job).outcome × ((proposal_in job proposal).outcome ≡ Refuses number place))
+      (cond seven (Outside job proposal place)
+      (cond eight (Broken job proposal place)
+      (cond nine (Above job proposal place) ⊥))))
 
   abbrev Says : Verdict → Type 0
   Says (Accepted F G) = Acceptable job proposal F G

@@ -10,7 +10,7 @@ use lib.Dec.{eqb, ltb}
 use lib.IntN.{ℤ, pos, nat_abs}
 use lib.ListN.{length, take, drop, get_or, length-drop, take-append-drop}
 use lib.Seq.{take_all, get_or-drop}
-use Rattle.numbers.specs.Choice.{if◌then◌else◌}
+use Rattle.std.specs.Prelude.{if◌then◌else◌}
 use Rattle.packs.specs.declared.Outcome.{Outcome}
 use Rattle.packs.specs.Reading.{Ran}
 use Rattle.jobs.specs.Job.{Job}

@@ -9,7 +9,7 @@ use lib.IntN.{ℤ, nat_abs}
 use lib.Ieee.{Float}
 use lib.ListN.{length, drop, set}
 use lib.Seq.{sets, drop-drop, drop-append-add}
-use Rattle.numbers.specs.Choice.{if◌then◌else◌}
+use Rattle.std.specs.Prelude.{if◌then◌else◌}
 use Rattle.fields.specs.declared.Field.TheVariants.{Society}
 use Rattle.fields.specs.Table.{values_from}
 use Rattle.packs.specs.declared.Outcome.{Outcome}

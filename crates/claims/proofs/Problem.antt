@@ -19,7 +19,7 @@ use Rattle.certificate.specs.Differences.{Inside, in_row, difference, coefficien
 use Rattle.certificate.specs.Far.{farness}
 use Rattle.certificate.proofs.Differences.{difference_is_form, smooth_loss}
 use Rattle.certificate.proofs.Families.{either, sum_forms}
-use Rattle.numbers.specs.Choice.{if◌then◌else◌}
+use Rattle.std.specs.Prelude.{if◌then◌else◌}
 use Rattle.jobs.specs.Job.{Job, link_coefficient}
 use Rattle.jobs.specs.Allowed.{Allowed}
 use Rattle.jobs.proofs.Places.{upto_nonneg}

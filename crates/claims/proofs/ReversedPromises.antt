@@ -8,7 +8,7 @@ use lib.Dec.{ltb}
 use lib.IntN.{ℤ}
 use lib.ListN.{length, drop}
 use Rattle.numbers.specs.Plain.{number_in, bytes_in}
-use Rattle.numbers.specs.Choice.{if◌then◌else◌}
+use Rattle.std.specs.Prelude.{if◌then◌else◌}
 use Rattle.fields.specs.Table.{step_of, values_from}
 use Rattle.whole.specs.Sum.{sum}
 use Rattle.packs.specs.declared.Outcome.{Outcome}

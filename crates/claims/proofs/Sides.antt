@@ -6,7 +6,7 @@ use mathlib.Core.Bool.{Bool, true, false}
 use lib.IntN.{ℤ, pos}
 use lib.Signed.{le_z, le_z_yes}
 use Rattle.certificate.specs.Terms.{box_term, square_term, square_counts}
-use Rattle.numbers.specs.Choice.{if◌then◌else◌}
+use Rattle.std.specs.Prelude.{if◌then◌else◌}
 use Rattle.numbers.proofs.Clash.{clash}
 use Rattle.jobs.specs.Job.{Job}
 use Rattle.tally.specs.declared.term.Supplied.{Supplied}

@@ -10,7 +10,7 @@ use lib.IntN.{ℤ}
 use lib.Signed.{◌≤ℤ◌, ◌<ℤ◌, le_z, le_z_yes, clash_ℤ}
 use mir.Facts.{and_yes, yes_and}
 use Rattle.whole.proofs.Order.{≤ℤ-or->}
-use Rattle.numbers.specs.Choice.{if◌then◌else◌}
+use Rattle.std.specs.Prelude.{if◌then◌else◌}
 use Rattle.jobs.specs.Job.{Job}
 use Rattle.measure.specs.declared.check.Verdict.{Verdict}
 use Rattle.measure.specs.declared.check.Verdict.TheVariants.{Accepted, Refused}

@@ -2,7 +2,7 @@
 -- stands in proofs/BenchPromises.antt.
 use Rattle.std.specs.Prelude.{ℕ, ◌+◌, ◌*◌, ◌/◌, ◌%◌, ◌≤◌, ◌<◌, ◌≡◌, ◌⊎◌, true, List, [], ◌∷◌, ℤ, pos, length, drop, get_or}
 use Rattle.whole.specs.Sum.{sum}
-use Rattle.numbers.specs.Choice.{if◌then◌else◌}
+use Rattle.std.specs.Prelude.{if◌then◌else◌}
 use Rattle.jobs.specs.Words.{word_at}
 use Rattle.jobs.specs.Packs.{job_in}
 use Rattle.tally.specs.Largest.{Largest}

@@ -1,7 +1,7 @@
 -- What C sees of a sequence of the exported calls on a shelf: of each call the number returned, its answer slice and its output. A call is made with
 -- what is sent and with the slices that are lent beside the shelf.
 use Rattle.std.specs.Prelude.{ℕ, ◌≡◌, cond, List, [], ◌∷◌, length}
-use Rattle.numbers.specs.Choice.{if◌then◌else◌}
+use Rattle.std.specs.Prelude.{if◌then◌else◌}
 use Rattle.checked.specs.Answers.{Reply, overwritten}
 use Rattle.shelf.specs.Calls.{Own, Call, keep, fetch, forget, own, clear, names, names_other}
 use Rattle.bench.specs.Answers.{has_four, returned_for, written_for, left_for}

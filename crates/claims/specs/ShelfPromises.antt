@@ -3,7 +3,7 @@
 -- proofs/ShelfPromises.antt.
 use Rattle.std.specs.Prelude.{ℕ, ◌*◌, ◌≤◌, ◌≡◌, true, false, List, [], length, replicate}
 use Rattle.std.proofs.Math.Option.{some}
-use Rattle.numbers.specs.Choice.{if◌then◌else◌}
+use Rattle.std.specs.Prelude.{if◌then◌else◌}
 use Rattle.jobs.specs.Packs.{job_in, read_job}
 use Rattle.measure.specs.Check.{check_of}
 use Rattle.checked.specs.Answers.{Reply, refusal, accepted}

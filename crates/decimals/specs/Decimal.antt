@@ -1,6 +1,6 @@
 -- A number in decimal, in ASCII, as the checking program's line (document 01) and the comma lists (document 02, W-201) have it.
 use Rattle.std.specs.Prelude.{ℕ, zero, suc, ◌+◌, ◌/◌, ◌%◌, List, [], ◌∷◌, ◌++◌, ltb}
-use Rattle.numbers.specs.Choice.{if◌then◌else◌}
+use Rattle.std.specs.Prelude.{if◌then◌else◌}
 
 -- The ASCII digits of x, in at most so many.
 unfoldable pub digits_in : ℕ → ℕ → List ℕ

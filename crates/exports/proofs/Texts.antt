@@ -10,7 +10,7 @@ use borrow.Author.Tests.{lt-leb, le-leb, lt-ltb, le-ltb, leb-true}
 use lib.Dec.{leb}
 use lib.ListN.{length, get_or, set, take, drop, length-append, take-append-drop, drop_of_length-le}
 use lib.Seq.{take-suc, take_all, drop-cons, length-take-le}
-use Rattle.numbers.specs.Choice.{if◌then◌else◌}
+use Rattle.std.specs.Prelude.{if◌then◌else◌}
 use Rattle.packs.specs.declared.Outcome.TheVariants.{Done, Refused}
 use Rattle.packs.specs.Writing.{Written, refused, in_room, Leaves}
 use Rattle.decimals.specs.Decimal.{decimal}

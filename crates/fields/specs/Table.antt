@@ -1,7 +1,7 @@
 -- Document 01, "Numbers allowed", "Packs" and "Order", as one table: for each field of a pack what its number may be, what comes after it and
 -- which refusal it can bring. `NotAllowed` is refusal 2 at the number's offset; `Refused` has its own number and place.
 use Rattle.std.specs.Prelude.{ℕ, ◌+◌, ◌-◌, ◌*◌, ◌/◌, ◌%◌, Bool, true, false, ◌&&◌, leb, ltb, eqb}
-use Rattle.numbers.specs.Choice.{if◌then◌else◌}
+use Rattle.std.specs.Prelude.{if◌then◌else◌}
 use Rattle.fields.specs.declared.cells.Cells.{Cells}
 use Rattle.fields.specs.declared.links.Links.{Links}
 use Rattle.fields.specs.declared.Field.{Field}

@@ -3,7 +3,7 @@ use Rattle.std.proofs.Common.{◌≡◌, ℕ, ◌+◌, ◌*◌, ◌<◌, ◌≤�
 use native.Mathlib.Nat as N
 use lib.Ieee.{Float, binary64, lt, of_int}
 use lib.Ieee.Positive.{num, den, den_pos}
-use Rattle.numbers.specs.Choice.{if◌then◌else◌}
+use Rattle.std.specs.Prelude.{if◌then◌else◌}
 use Rattle.jobs.specs.Job.{Job}
 use Rattle.jobs.specs.Allowed.{CellAllowed}
 use Rattle.whole.proofs.Order.{pos_le}

@@ -3,7 +3,7 @@ use Rattle.std.proofs.Common.{◌≡◌, ℕ, ◌+◌, ◌<◌, ◌≤◌, Bool,
 use native.Mathlib.Nat as N
 use lib.Ieee.{Float, nan}
 use lib.ListN.{length-replicate}
-use Rattle.numbers.specs.Choice.{if◌then◌else◌}
+use Rattle.std.specs.Prelude.{if◌then◌else◌}
 use Rattle.numbers.proofs.Clash.{clash}
 use Rattle.whole.proofs.Order.{pos_mono}
 use Rattle.fields.specs.Table.{values_from}

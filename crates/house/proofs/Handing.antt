@@ -4,7 +4,7 @@ use Rattle.std.proofs.Common.{◌≡◌, ℕ, zero, suc, ◌+◌, ◌-◌, ◌<�
 use lib.Ieee.{Float, nan}
 use lib.ListN.{length-replicate, replicate-append-replicate}
 use lib.Seq.{sets}
-use Rattle.numbers.specs.Choice.{if◌then◌else◌}
+use Rattle.std.specs.Prelude.{if◌then◌else◌}
 use Rattle.packs.specs.declared.Outcome.TheVariants.{Done}
 use Rattle.packs.specs.Writing.{Written, refused}
 use Rattle.packs.specs.Walking.{packed, padded}

@@ -2,7 +2,7 @@
 use Rattle.std.proofs.Common.{◌≡◌, ℕ, suc, ◌+◌, ◌-◌, ◌*◌, ◌^◌, ◌<◌, ◌≤◌, Bool, true, false, T, eqb, ℤ, pos, negsuc, ◌+ℤ◌, ◌*ℤ◌, nat_abs, sym, subst, ap₂, arith, lit<, le→leb, lt→ltb, to_z-of_z, w64, SFits, to_z, of_z}
 use native.Mathlib.Nat as N
 use lib.Ieee.{binary64, in_float}
-use Rattle.numbers.specs.Choice.{if◌then◌else◌}
+use Rattle.std.specs.Prelude.{if◌then◌else◌}
 use Rattle.whole.proofs.Fits.{small_fits, fits_by, gives, Adds, partial_small}
 use Rattle.whole.proofs.Magnitude.{bound-+, bound-*}
 use Rattle.rows.specs.Rows.{row_of}

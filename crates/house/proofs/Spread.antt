@@ -5,7 +5,7 @@ use native.Mathlib.Nat as N
 use borrow.Author.Tests.{eqb-false, lt-leb}
 use lib.ListN.{length-replicate}
 use lib.Ieee.{Float, nan, binary64, of_int}
-use Rattle.numbers.specs.Choice.{if◌then◌else◌}
+use Rattle.std.specs.Prelude.{if◌then◌else◌}
 use Rattle.whole.proofs.Sums.{sum_vanish}
 use Rattle.whole.proofs.Solve.{num, ◌⊕◌, ◌⊗◌, ◌≗◌, ring}
 use Rattle.rows.specs.Rows.{row_of}

@@ -5,7 +5,7 @@ use native.Mathlib.Nat as N
 use borrow.Author.Tests.{eqb-false}
 use lib.Ieee.{binary64, of_int}
 use lib.IntN.{*ℤ_comm, *ℤ-zero}
-use Rattle.numbers.specs.Choice.{if◌then◌else◌}
+use Rattle.std.specs.Prelude.{if◌then◌else◌}
 use Rattle.whole.specs.Sum.{sum, only}
 use Rattle.whole.proofs.Sums.{sum_cong, sum_ext, sum_vanish}
 use Rattle.whole.proofs.Parts.{sum_one}

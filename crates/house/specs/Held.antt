@@ -1,7 +1,7 @@
 -- How the code makes a row of a grid's band: from two lists of five entries, one down and one across. Nothing promised rests on this file.
 use Rattle.std.specs.Prelude.{◌≡◌, ℕ, ◌+◌, ◌/◌, ◌%◌, ◌≤◌, List, ℤ, pos, ◌==◌, nat_le, slice_index_or, Float}
 use Rattle.std.specs.Float.{nan}
-use Rattle.numbers.specs.Choice.{if◌then◌else◌}
+use Rattle.std.specs.Prelude.{if◌then◌else◌}
 use Rattle.jobs.specs.Job.{Job}
 use Rattle.jobs.specs.Words.{columns_of, job_of}
 use Rattle.house.specs.Known.{Known}

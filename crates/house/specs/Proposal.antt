@@ -2,7 +2,7 @@
 -- needed length is known."; document 02, W-205: "The house proposal covers grids of at most 12 columns").
 use Rattle.std.specs.Prelude.{ℕ, ◌+◌, List, replicate, ℤ, pos, nat_lt, slice_index_or, unsigned_abs, Float}
 use Rattle.std.specs.Float.{nan}
-use Rattle.numbers.specs.Choice.{if◌then◌else◌}
+use Rattle.std.specs.Prelude.{if◌then◌else◌}
 use Rattle.packs.specs.declared.Outcome.{Outcome}
 use Rattle.packs.specs.declared.Outcome.TheVariants.{Done, Refused}
 use Rattle.packs.specs.Writing.{Written, refused, roomed}

@@ -2,7 +2,7 @@
 use Rattle.std.specs.Prelude.{ℕ, ◌+◌, ◌*◌, ◌/◌, pos, Float}
 use Rattle.std.specs.Float.{nan, inf, fin, binary64}
 use Rattle.std.specs.Float.Ieee.{up, down, lt, of_int}
-use Rattle.numbers.specs.Choice.{if◌then◌else◌}
+use Rattle.std.specs.Prelude.{if◌then◌else◌}
 
 -- "the nearest whole number, halves up", worked out exactly: a v that is finite and not negative is the fraction m · up e / down e, and this is
 -- v + 1/2 without its fraction. It is asked only of a v within a box.

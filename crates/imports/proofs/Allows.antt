@@ -10,7 +10,7 @@ use lib.Dec.{leb, ltb, eqb}
 use lib.IntN.{ℤ, pos, negsuc, nat_abs}
 use lib.ListN.{length, get_or}
 use lib.Signed.{◌≤ℤ◌}
-use Rattle.numbers.specs.Choice.{if◌then◌else◌}
+use Rattle.std.specs.Prelude.{if◌then◌else◌}
 use Rattle.numbers.proofs.Clash.{clash}
 use Rattle.whole.proofs.Order.{pos_mono, pos_le}
 use Rattle.fields.specs.Table.{house_order, order_used}

@@ -11,7 +11,7 @@ use lib.ListN.{length}
 use mir.Syntax.{w64}
 use mir.Val.{SFits}
 use Rattle.whole.proofs.Fits.{sfits64}
-use Rattle.numbers.specs.Choice.{if◌then◌else◌}
+use Rattle.std.specs.Prelude.{if◌then◌else◌}
 use Rattle.packs.specs.Promises.{AllWords}
 use Rattle.lists.specs.Promises.{Listing, none, line, ListText}
 use Rattle.imports.specs.declared.Given.{Given}

@@ -6,7 +6,7 @@ use native.Mathlib.Nat.{mul_comm, mul_assoc, mul-add, mul-one, div-mul-le_self, 
 use native.Mathlib.Omega.{arith}
 use borrow.Author.Tests.{ne_eqb, ltb-true, ltb-false}
 use lib.Dec.{ltb}
-use Rattle.numbers.specs.Choice.{if◌then◌else◌}
+use Rattle.std.specs.Prelude.{if◌then◌else◌}
 use Rattle.imports.specs.Imports.{crude_of}
 use Rattle.imports.specs.Promises.{RateHalvesUp, RatesAllowed, RoundedDown, WeightRoundedDown}
 

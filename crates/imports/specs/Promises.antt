@@ -1,6 +1,6 @@
 -- What is promised of an imported claims list.
 use Rattle.std.specs.Prelude.{ℕ, ◌+◌, ◌*◌, ◌≤◌, ◌<◌, ◌≡◌, true, false, List, [], ◌∷◌, ltb, pos, length, get_or}
-use Rattle.numbers.specs.Choice.{if◌then◌else◌}
+use Rattle.std.specs.Prelude.{if◌then◌else◌}
 use Rattle.fields.specs.Table.{order_used}
 use Rattle.packs.specs.declared.Outcome.TheVariants.{Done, Refused}
 use Rattle.packs.specs.Writing.{refused, in_room, roomed}

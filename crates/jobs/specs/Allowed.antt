@@ -1,7 +1,7 @@
 -- What is known of a job that was read (document 01, "Numbers allowed", and the refusals 3, 4 and 5), and of the words it was read into.
 use Rattle.std.specs.Prelude.{ℕ, zero, suc, ◌+◌, ◌*◌, ◌≤◌, ◌<◌, ◌≡◌, Bool, true, false, List, leb, ℤ, pos, nat_abs, length, ◌≤ℤ◌}
 use Rattle.std.specs.Int.Signed.{lt_z}
-use Rattle.numbers.specs.Choice.{if◌then◌else◌}
+use Rattle.std.specs.Prelude.{if◌then◌else◌}
 use Rattle.jobs.specs.Job.{Job}
 use Rattle.jobs.specs.Words.{word_at, count_at, is_grid, head_words, cell_words, cells_of, links_of, start_of}
 

@@ -1,6 +1,6 @@
 -- The two packs of document 01, "Packs": a job pack is walked from its society on, a proposal pack from its first value on.
 use Rattle.std.specs.Prelude.{ℕ, List, [], ltb, ℤ}
-use Rattle.numbers.specs.Choice.{if◌then◌else◌}
+use Rattle.std.specs.Prelude.{if◌then◌else◌}
 use Rattle.fields.specs.declared.Field.TheVariants.{Society}
 use Rattle.fields.specs.Table.{values_from}
 use Rattle.packs.specs.declared.Outcome.{Outcome}

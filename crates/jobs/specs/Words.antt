@@ -2,7 +2,7 @@
 -- link the term count, its terms (cell, coefficient), then b"; W-205: "Order field 5 announces a grid: after it stand rows, columns, the order down,
 -- the order across and a second constant; then k and T as before"), and where each link starts among them.
 use Rattle.std.specs.Prelude.{ℕ, zero, suc, ◌+◌, ◌-◌, ◌*◌, Bool, List, eqb, ℤ, pos, nat_abs, get_or}
-use Rattle.numbers.specs.Choice.{if◌then◌else◌}
+use Rattle.std.specs.Prelude.{if◌then◌else◌}
 use Rattle.fields.specs.Table.{order_used, grid_field}
 use Rattle.jobs.specs.Job.{Job}
 

@@ -10,7 +10,7 @@ use lib.Dec.{ltb}
 use lib.IntN.{pos, nat_abs}
 use lib.ListN.{length, take, drop, replicate, length-drop}
 use lib.Seq.{sets, sets-eq, take_all}
-use Rattle.numbers.specs.Choice.{if◌then◌else◌}
+use Rattle.std.specs.Prelude.{if◌then◌else◌}
 use Rattle.numbers.specs.declared.plain.Number.{Number}
 use Rattle.numbers.specs.declared.plain.Number.TheVariants.{Value, Unreadable}
 use Rattle.numbers.specs.Plain.{number_at}

@@ -1,6 +1,6 @@
 -- Document 01, "The checking program": the line that it prints for an input.
 use Rattle.std.specs.Prelude.{ℕ, ◌+◌, ◌-◌, List, [], ◌∷◌, ◌++◌, ltb, nat_abs, length, take, drop}
-use Rattle.numbers.specs.Choice.{if◌then◌else◌}
+use Rattle.std.specs.Prelude.{if◌then◌else◌}
 use Rattle.numbers.specs.declared.plain.Number.{Number}
 use Rattle.numbers.specs.declared.plain.Number.TheVariants.{Value, Unreadable}
 use Rattle.numbers.specs.Plain.{number_at}

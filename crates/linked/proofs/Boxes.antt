@@ -10,7 +10,7 @@ use lib.IntN.{ℤ}
 use lib.Ieee.{nan}
 use lib.ListN.{get_or}
 use lib.Signed.{◌≤ℤ◌, le_z}
-use Rattle.numbers.specs.Choice.{if◌then◌else◌}
+use Rattle.std.specs.Prelude.{if◌then◌else◌}
 use Rattle.numbers.proofs.Clash.{clash}
 use Rattle.whole.proofs.Order.{pos_mono}
 use Rattle.jobs.specs.Job.{Job}

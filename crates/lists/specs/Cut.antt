@@ -1,6 +1,6 @@
 -- Document 02, W-201: "comma-separated lines after RFC 4180". Lines are parted by CR LF and by nothing else, fields by commas.
 use Rattle.std.specs.Prelude.{ℕ, zero, suc, ◌+◌, Bool, true, false, ◌&&◌, List, [], ◌∷◌, eqb, length, get_or, take, drop}
-use Rattle.numbers.specs.Choice.{if◌then◌else◌}
+use Rattle.std.specs.Prelude.{if◌then◌else◌}
 
 -- How many bytes stand before the first place at which a test holds; all of them, where it holds nowhere.
 unfoldable pub length_to : (List ℕ → Bool) → List ℕ → ℕ

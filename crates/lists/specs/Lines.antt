@@ -2,7 +2,7 @@
 -- line". A claims list has age, exposure and deaths; an export has age and rate.
 use Rattle.std.specs.Prelude.{ℕ, ◌+◌, ◌≡◌, Bool, true, ◌&&◌, List, [], ◌∷◌, ltb, eqb}
 use Rattle.std.proofs.lemmas.List.Edits.{sets}
-use Rattle.numbers.specs.Choice.{if◌then◌else◌}
+use Rattle.std.specs.Prelude.{if◌then◌else◌}
 use Rattle.packs.specs.declared.Outcome.{Outcome}
 use Rattle.packs.specs.declared.Outcome.TheVariants.{Done, Refused}
 use Rattle.decimals.specs.declared.reading.Whole.{Whole}

@@ -24,7 +24,7 @@ use Rattle.whole.proofs.Fits.{Holds, Adds, small_fits, fits_by, gives}
 use Rattle.certificate.specs.Problem.{squared}
 use Rattle.certificate.specs.Differences.{form_at, difference, coefficient, returned}
 use Rattle.certificate.proofs.Differences.{returned_is_gathered, gathered_size}
-use Rattle.numbers.specs.Choice.{if◌then◌else◌}
+use Rattle.std.specs.Prelude.{if◌then◌else◌}
 use Rattle.jobs.specs.Words.{word_at, cells_of, columns_of, order_of, across_of, second_of, job_of}
 use Rattle.jobs.specs.Allowed.{Upto, ShapeAllowed}
 use Rattle.jobs.proofs.Places.{zeros_at, columns_some, columns_few, order_inside}

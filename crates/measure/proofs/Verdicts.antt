@@ -15,7 +15,7 @@ use mir.Val.{SFits}
 use Rattle.whole.specs.Sum.{sum}
 use Rattle.whole.proofs.Sums.{sum_zero}
 use Rattle.whole.proofs.Fits.{small_fits, gives}
-use Rattle.numbers.specs.Choice.{if◌then◌else◌}
+use Rattle.std.specs.Prelude.{if◌then◌else◌}
 use Rattle.numbers.proofs.Clash.{clash}
 use Rattle.jobs.specs.Job.{link_coefficient}
 use Rattle.jobs.specs.Words.{word_at, cells_of, links_of, job_of}

@@ -1,7 +1,7 @@
 -- Document 01, "Order": the check of a proposal, from two packs to its verdict: the job pack's refusals, then 6, 7 (lowest cell), 8 (lowest link), 9.
 use Rattle.std.specs.Prelude.{ℕ, zero, suc, ◌+◌, Bool, ◌&&◌, List, ltb, ℤ}
 use Rattle.std.specs.Int.Signed.{le_z}
-use Rattle.numbers.specs.Choice.{if◌then◌else◌}
+use Rattle.std.specs.Prelude.{if◌then◌else◌}
 use Rattle.packs.specs.declared.Outcome.{Outcome}
 use Rattle.packs.specs.declared.Outcome.TheVariants.{Done, Refused as Refuses}
 use Rattle.jobs.specs.Job.{Job}

@@ -1,6 +1,6 @@
 -- Document 02, W-202: the terms of a gap by their places, and the place of the largest.
 use Rattle.std.specs.Prelude.{ℕ, ◌+◌, ◌-◌, ltb, ℤ}
-use Rattle.numbers.specs.Choice.{if◌then◌else◌}
+use Rattle.std.specs.Prelude.{if◌then◌else◌}
 use Rattle.jobs.specs.Job.{Job}
 use Rattle.tally.specs.Largest.{largest_of}
 use Rattle.measure.specs.Gap.{cell_term_of, link_term_of}

@@ -1,6 +1,6 @@
 -- Document 01, "Loss and gap": the differences of a table v, and its loss; W-205: a grid's differences in both directions.
 use Rattle.std.specs.Prelude.{ℕ, ◌-◌, ◌*◌, ℤ, pos, ◌+ℤ◌, ◌-ℤ◌, ◌*ℤ◌}
-use Rattle.numbers.specs.Choice.{if◌then◌else◌}
+use Rattle.std.specs.Prelude.{if◌then◌else◌}
 use Rattle.whole.specs.Sum.{sum}
 use Rattle.certificate.specs.Problem.{squared}
 use Rattle.certificate.specs.Differences.{Family, along, form_at, difference, in_row}

@@ -1,7 +1,7 @@
 -- What the steps inside the check come to: parts that are added to a lent list, and what a walk over the links answers.
 use Rattle.std.specs.Prelude.{ℕ, suc, ◌+◌, ◌*◌, ◌≡◌, Bool, List, ltb, ℤ, pos, ◌+ℤ◌, ◌*ℤ◌, length}
 use Rattle.whole.specs.Sum.{sum, coefficient_of}
-use Rattle.numbers.specs.Choice.{if◌then◌else◌}
+use Rattle.std.specs.Prelude.{if◌then◌else◌}
 use Rattle.jobs.specs.Job.{Job, link_coefficient}
 use Rattle.jobs.specs.Words.{word_at, count_at}
 use Rattle.tally.specs.Tally.{tallied_of}

@@ -12,7 +12,7 @@ use lib.Dec.{ltb, eqb}
 use lib.ListN.{length, get_or, drop}
 use Rattle.numbers.specs.declared.plain.Number.{Number}
 use Rattle.numbers.specs.declared.plain.Number.TheVariants.{Value, Unreadable}
-use Rattle.numbers.specs.Choice.{if◌then◌else◌}
+use Rattle.std.specs.Prelude.{if◌then◌else◌}
 use Rattle.numbers.specs.Plain.{number_in, number_at, joined, last_group}
 use Rattle.numbers.proofs.Reading.{at_end, at_byte}
 

@@ -12,7 +12,7 @@ use mir.Syntax.{w64}
 use mir.Val.{SFits, to_z, of_z}
 use mir.Facts.{to_z-of_z, to_z_pos, to_z-neg}
 use Rattle.numbers.specs.declared.zigzag.Sign.TheVariants.{Plus, Minus}
-use Rattle.numbers.specs.Choice.{if◌then◌else◌}
+use Rattle.std.specs.Prelude.{if◌then◌else◌}
 use Rattle.numbers.specs.Zigzag.{stored_of, signed_of, sign_of}
 use Rattle.numbers.specs.Promises.{SignsReadBack, SignsWrittenBack}
 use Rattle.numbers.proofs.Clash.{clash}

@@ -2,7 +2,7 @@
 use Rattle.std.specs.Prelude.{ℕ, ◌+◌, ◌*◌, ◌/◌, ◌%◌, eqb, ℤ, pos, negsuc}
 use Rattle.numbers.specs.declared.zigzag.Sign.{Sign}
 use Rattle.numbers.specs.declared.zigzag.Sign.TheVariants.{Plus, Minus}
-use Rattle.numbers.specs.Choice.{if◌then◌else◌}
+use Rattle.std.specs.Prelude.{if◌then◌else◌}
 
 -- The number that stands for x in a pack.
 abbrev pub stored_of : ℤ → ℕ

@@ -15,7 +15,7 @@ use mir.Syntax.{w64}
 use mir.Val.{SFits}
 use Rattle.numbers.specs.declared.plain.Number.{Number}
 use Rattle.numbers.specs.declared.plain.Number.TheVariants.{Value, Unreadable}
-use Rattle.numbers.specs.Choice.{if◌then◌else◌}
+use Rattle.std.specs.Prelude.{if◌then◌else◌}
 use Rattle.numbers.specs.Plain.{value_of, number_at, bytes_of}
 use Rattle.numbers.specs.Zigzag.{stored_of}
 use Rattle.numbers.proofs.Bytes.{size_most, size_some}

@@ -3,7 +3,7 @@
 use Rattle.std.specs.Prelude.{ℕ, zero, suc, ◌+◌, false, List, ℤ, pos, negsuc, get_or, set, replicate, Float}
 use Rattle.std.specs.Float.{fin, nan, binary64}
 use Rattle.std.specs.Float.Ieee.{add, sub, mul, div, lt, of_int}
-use Rattle.numbers.specs.Choice.{if◌then◌else◌}
+use Rattle.std.specs.Prelude.{if◌then◌else◌}
 use Rattle.jobs.specs.Job.{Job}
 use Rattle.house.specs.Band.{zero64}
 use Rattle.factor.specs.Solve.{solution_of}

@@ -14,7 +14,7 @@ use mir.Val.{to_z, of_z}
 use borrow.Author.Tests.{leb-true, le-leb, lt-leb, lt-ltb, le-ltb}
 use borrow.Rule.Slice.PartMut.{put_mid, mid_of}
 use Rattle.whole.proofs.Fits.{small_fits, gives}
-use Rattle.numbers.specs.Choice.{if◌then◌else◌}
+use Rattle.std.specs.Prelude.{if◌then◌else◌}
 use Rattle.jobs.specs.Job.{Job}
 use Rattle.jobs.specs.Words.{word_at, links_of}
 use Rattle.jobs.specs.Allowed.{Upto, Proposed}

@@ -1,7 +1,7 @@
 -- What a fetch says (document 02, W-203): "The shelf keeps the multipliers with the values, and a fetch checks both against the job presented,
 -- answering as the check would, with the new F and G." From any words of a span.
 use Rattle.std.specs.Prelude.{ℕ, ◌+◌, ◌*◌, Bool, cond, ◌&&◌, List, ◌++◌, map, eqb, leb, ltb, ℤ, pos, nat_abs, length, take, drop, get_or}
-use Rattle.numbers.specs.Choice.{if◌then◌else◌}
+use Rattle.std.specs.Prelude.{if◌then◌else◌}
 use Rattle.packs.specs.declared.Outcome.{Outcome}
 use Rattle.packs.specs.declared.Outcome.TheVariants.{Done, Refused as Refuses}
 use Rattle.jobs.specs.Job.{Job}

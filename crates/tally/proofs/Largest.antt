@@ -11,7 +11,7 @@ use lib.Dec.{ltb}
 use lib.IntN.{ℤ, pos, nat_abs}
 use lib.Signed.{◌≤ℤ◌, ◌<ℤ◌, lt_z, le_z_yes, lt_z_yes, clash_ℤ, ≤ℤ_refl}
 use Rattle.whole.proofs.Order.{≤ℤ-trans, ≤ℤ-or->, <ℤ-le}
-use Rattle.numbers.specs.Choice.{if◌then◌else◌}
+use Rattle.std.specs.Prelude.{if◌then◌else◌}
 use Rattle.tally.specs.Largest.{largest_of, Largest}
 use Rattle.tally.specs.Tally.{top_of}
 use Rattle.tally.proofs.Terms.{true_t}

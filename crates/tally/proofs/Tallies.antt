@@ -8,7 +8,7 @@ use lib.Dec.{lit<, leb→le}
 use lib.IntN.{ℤ, pos, negsuc}
 use lib.Signed.{◌≤ℤ◌, lt_z}
 use Rattle.whole.proofs.Fits.{small_fits, gives}
-use Rattle.numbers.specs.Choice.{if◌then◌else◌}
+use Rattle.std.specs.Prelude.{if◌then◌else◌}
 use Rattle.tally.specs.declared.Tally.{Tally}
 use Rattle.tally.specs.Largest.{largest_of}
 use Rattle.tally.specs.Given.{Settles, Tallies, Led}

@@ -15,7 +15,7 @@ use Rattle.whole.proofs.Order.{≤ℤ-trans}
 use Rattle.whole.proofs.Magnitude.{bound-+, bound--, bound-*, nat_abs_le_of, nat_abs_sq}
 use Rattle.whole.proofs.Fits.{small_fits, gives}
 use Rattle.certificate.specs.Terms.{box_term, square_term, smaller, square_counts, cell_term}
-use Rattle.numbers.specs.Choice.{if◌then◌else◌}
+use Rattle.std.specs.Prelude.{if◌then◌else◌}
 use Rattle.numbers.proofs.Clash.{clash}
 use Rattle.jobs.specs.Allowed.{Upto}
 use Rattle.jobs.proofs.Places.{upto_le}

@@ -1,7 +1,7 @@
 -- Document 02, W-202: the largest of n terms, by its place.
 use Rattle.std.specs.Prelude.{ℕ, zero, suc, ◌<◌, ℤ, ◌≤ℤ◌, ◌<ℤ◌}
 use Rattle.std.specs.Int.Signed.{lt_z}
-use Rattle.numbers.specs.Choice.{if◌then◌else◌}
+use Rattle.std.specs.Prelude.{if◌then◌else◌}
 
 -- Of n terms the place of the largest, "the lowest place if several are equal": a later one takes it only if it is larger.
 unfoldable pub largest_of : (t : ℕ → ℤ) → (n : ℕ) → ℕ

@@ -1,7 +1,7 @@
 -- What the steps of a tally come to: the running total that is settled once it passes the tolerance, the largest term so far and its place.
 use Rattle.std.specs.Prelude.{ℕ, zero, suc, ◌+◌, ℤ, negsuc, ◌+ℤ◌}
 use Rattle.std.specs.Int.Signed.{le_z, lt_z}
-use Rattle.numbers.specs.Choice.{if◌then◌else◌}
+use Rattle.std.specs.Prelude.{if◌then◌else◌}
 use Rattle.tally.specs.declared.Tally.{Tally}
 use Rattle.tally.specs.Largest.{largest_of}
 

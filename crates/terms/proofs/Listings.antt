@@ -13,7 +13,7 @@ use lib.Dec.{ltb}
 use lib.IntN.{ℤ, pos}
 use lib.ListN.{length, set, length-append, get_or-append}
 use lib.Seq.{sets, get_or-append-add}
-use Rattle.numbers.specs.Choice.{if◌then◌else◌}
+use Rattle.std.specs.Prelude.{if◌then◌else◌}
 use Rattle.numbers.proofs.Stores.{sets_append}
 use Rattle.jobs.specs.Job.{Job}
 use Rattle.jobs.specs.Words.{word_at, cells_of, job_of}

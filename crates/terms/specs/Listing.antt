@@ -1,6 +1,6 @@
 -- Document 02, W-202, as read: the terms of the gap handed out, "three words a place, cells first, then links".
 use Rattle.std.specs.Prelude.{ℕ, zero, suc, ◌+◌, ◌*◌, List, [], ◌∷◌, ◌++◌, eqb, ltb, ℤ, pos}
-use Rattle.numbers.specs.Choice.{if◌then◌else◌}
+use Rattle.std.specs.Prelude.{if◌then◌else◌}
 use Rattle.packs.specs.declared.Outcome.{Outcome}
 use Rattle.packs.specs.declared.Outcome.TheVariants.{Done, Refused as Refuses}
 use Rattle.packs.specs.Reading.{Ran}

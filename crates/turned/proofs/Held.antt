@@ -7,7 +7,7 @@ use native.Mathlib.Nat as N
 use lib.Dec.{leb}
 use lib.IntN.{pos}
 use lib.Signed.{lt_z}
-use Rattle.numbers.specs.Choice.{if◌then◌else◌}
+use Rattle.std.specs.Prelude.{if◌then◌else◌}
 use Rattle.whole.specs.Turned.{grid_map}
 use Rattle.whole.proofs.Turned.{Involution}
 use Rattle.whole.proofs.Grids.{map_at, cell_inside}

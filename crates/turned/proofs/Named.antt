@@ -12,7 +12,7 @@ use borrow.Author.Tests.{ltb-true, ltb-false, lt-ltb, eqb-true, eqb-false}
 use lib.Dec.{ltb, eqb}
 use lib.IntN.{ℤ, pos, negsuc, nat_abs, ◌+ℤ◌, +ℤ_idl, +ℤ_idr}
 use lib.ListN.{length}
-use Rattle.numbers.specs.Choice.{if◌then◌else◌}
+use Rattle.std.specs.Prelude.{if◌then◌else◌}
 use Rattle.whole.specs.Sum.{only, coefficient_of}
 use Rattle.whole.proofs.Sums.{sum_zero, sum_suc, sum_ext}
 use Rattle.whole.proofs.Parts.{sum_head}

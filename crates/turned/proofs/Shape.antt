@@ -6,7 +6,7 @@ use mathlib.Core.List.{List}
 use native.Mathlib.Nat as N
 use native.Mathlib.Omega.{arith}
 use lib.IntN.{ℤ, pos, nat_abs}
-use Rattle.numbers.specs.Choice.{if◌then◌else◌}
+use Rattle.std.specs.Prelude.{if◌then◌else◌}
 use Rattle.fields.specs.Table.{order_used}
 use Rattle.jobs.specs.Words.{word_at, count_at, head_words, is_grid, rows_of, columns_of, order_of, across_of, second_of, job_of}
 use Rattle.jobs.specs.Allowed.{Laid, Counted, GridLaid}

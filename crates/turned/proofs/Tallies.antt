@@ -4,7 +4,7 @@ use mathlib.Core.Path.{◌≡◌, sym, ap, ap₂, ◌∙◌}
 use mathlib.Core.Bool.{Bool}
 use native.Mathlib.Nat as N
 use lib.IntN.{pos, nat_abs, ◌+ℤ◌}
-use Rattle.numbers.specs.Choice.{if◌then◌else◌}
+use Rattle.std.specs.Prelude.{if◌then◌else◌}
 use Rattle.whole.specs.Sum.{sum}
 use Rattle.whole.proofs.Sums.{sum_zero, sum_ext, sum_cong}
 use Rattle.whole.proofs.Parts.{sum_head}

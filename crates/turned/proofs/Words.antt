@@ -9,7 +9,7 @@ use lib.Dec.{eqb}
 use lib.IntN.{ℤ, pos, nat_abs}
 use lib.ListN.{length, take, drop, length-append, length-drop, drop_of_length-le, take-append-drop, get_or-append}
 use lib.Seq.{drop-cons, drop-drop, drop-append_seam, get_or-drop, get_or_at, get_or-take, length-take-le}
-use Rattle.numbers.specs.Choice.{if◌then◌else◌}
+use Rattle.std.specs.Prelude.{if◌then◌else◌}
 use Rattle.whole.specs.Sum.{only, coefficient_of}
 use Rattle.whole.proofs.Sums.{sum_cong}
 use Rattle.fields.specs.Table.{grid_field}

@@ -1,7 +1,7 @@
 -- The words of a job and of a proposal with their cells turned about by a map τ (W-213, "written in reverse with boxes, weights and link cells"): the cell i has
 -- what the cell τ i had. Links, and so multipliers, keep their order; a link's terms are put in rising order again.
 use Rattle.std.specs.Prelude.{ℕ, zero, suc, Bool, List, [], ◌∷◌, ◌++◌, ltb, ℤ, pos, nat_abs, take, drop}
-use Rattle.numbers.specs.Choice.{if◌then◌else◌}
+use Rattle.std.specs.Prelude.{if◌then◌else◌}
 use Rattle.jobs.specs.Job.{Job, link_coefficient}
 use Rattle.jobs.specs.Words.{word_at, head_words, cells_of, links_of, job_of}
 

@@ -14,15 +14,15 @@ loss-f-requires c = judge_losing c.requires c.smoothed-rough.ensures.0
 
 pub returns-then-g-t : goal.returns-then-g-t
 returns-then-g-t c = (
-      judged_accepts c.requires c.smoothed-rough.ensures.1 c.total_of-cells.ensures c.tolerance_of-t.ensures c.loss-f.ensures c.if-g-t.true,
-      c.smoothed-rough.ensures.1,
-    )
+  judged_accepts c.requires c.smoothed-rough.ensures.1 c.total_of-cells.ensures c.tolerance_of-t.ensures c.loss-f.ensures c.if-g-t.true,
+  c.smoothed-rough.ensures.1,
+)
 
 pub place_of-place-requires : goal.place_of-place-requires
 place_of-place-requires c = judge_led c.requires c.smoothed-rough.ensures.1 c.total_of-cells.ensures c.tolerance_of-t.ensures
 
 pub returns : goal.returns
 returns c = (
-      judged_refuses c.requires c.smoothed-rough.ensures.1 c.total_of-cells.ensures c.tolerance_of-t.ensures c.if-g-t.false c.place_of-place.ensures,
-      c.smoothed-rough.ensures.1,
-    )
+  judged_refuses c.requires c.smoothed-rough.ensures.1 c.total_of-cells.ensures c.tolerance_of-t.ensures c.if-g-t.false c.place_of-place.ensures,
+  c.smoothed-rough.ensures.1,
+)

@@ -33,9 +33,9 @@ loop-m-smaller c = omega arith
 
 pub loop-m-preserved : goal.loop-m-preserved
 loop-m-preserved c = (
-      omega arith,
-      term_next (back_spread (gives_by (sym (gives refl c.ranges.y)) c.requires)) (omega arith) c.loop-m.invariant.1 refl (coefficient_read c.requires.coefficients (omega arith)) c.add_at.ensures,
-    )
+  omega arith,
+  term_next (back_spread (gives_by (sym (gives refl c.ranges.y)) c.requires)) (omega arith) c.loop-m.invariant.1 refl (coefficient_read c.requires.coefficients (omega arith)) c.add_at.ensures,
+)
 
 pub shape_of-parts : goal.shape_of-parts
 shape_of-parts c = c.loop-m.invariant.1.long

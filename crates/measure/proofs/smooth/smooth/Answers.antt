@@ -45,14 +45,14 @@ loop-i-smaller c = omega arith
 
 pub loop-i-preserved : goal.loop-i-preserved
 loop-i-preserved c = let S = smooths_by (sym (gives refl c.ranges.k)) c.requires in (
-      omega arith,
-      (
-        (adds_next (squares_adds c.requires) (omega arith) (record { is = c.loop-i.invariant.1.0 }) (square_is c.requires c.row_of-row.ensures (omega arith) c.difference_within-d.ensures)).is,
-        smooth_next S c.row_of-row.ensures (omega arith) c.difference_within-d.ensures c.loop-i.invariant.1.1
-            (gives (double_is S c.row_of-row.ensures (omega arith) c.difference_within-d.ensures) (double_fits S c.row_of-row.ensures (omega arith) c.difference_within-d.ensures))
-            c.give_back.ensures,
-      ),
-    )
+  omega arith,
+  (
+    (adds_next (squares_adds c.requires) (omega arith) (record { is = c.loop-i.invariant.1.0 }) (square_is c.requires c.row_of-row.ensures (omega arith) c.difference_within-d.ensures)).is,
+    smooth_next S c.row_of-row.ensures (omega arith) c.difference_within-d.ensures c.loop-i.invariant.1.1
+        (gives (double_is S c.row_of-row.ensures (omega arith) c.difference_within-d.ensures) (double_fits S c.row_of-row.ensures (omega arith) c.difference_within-d.ensures))
+        c.give_back.ensures,
+  ),
+)
 
 pub overflow_mul-result : goal.overflow_mul-result
 overflow_mul-result c = fits_by (times_is c.requires (gives refl c.ranges.k) (omega arith) (record { is = c.loop-i.invariant.1.0 })) (times_fits c.requires)
@@ -62,6 +62,6 @@ shape_of-parts c = c.loop-i.invariant.1.1.long
 
 pub returns : goal.returns
 returns c = (
-      gives (times_is c.requires (gives refl c.ranges.k) (omega arith) (record { is = c.loop-i.invariant.1.0 })) (times_fits c.requires),
-      rw (gives {x = c.args.k} refl c.ranges.k) at (smooth_end (smooths_by (sym (gives refl c.ranges.k)) c.requires) (omega arith) c.loop-i.invariant.1.1),
-    )
+  gives (times_is c.requires (gives refl c.ranges.k) (omega arith) (record { is = c.loop-i.invariant.1.0 })) (times_fits c.requires),
+  rw (gives {x = c.args.k} refl c.ranges.k) at (smooth_end (smooths_by (sym (gives refl c.ranges.k)) c.requires) (omega arith) c.loop-i.invariant.1.1),
+)

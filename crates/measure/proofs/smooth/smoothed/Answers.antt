@@ -20,9 +20,9 @@ overflow_add-result c = let H = numbers_shaped c.requires c.order_of-z.ensures c
 
 pub returns : goal.returns
 returns c = let H = numbers_shaped c.requires c.order_of-z.ensures c.across_of-across.ensures c.columns_of-columns.ensures c.constant_of-k.ensures c.second_of-second.ensures in (
-      gives
-          (two_is (smooth-down-requires c.before.before.before.before.before) (smooth-along-requires c.before.before) (omega arith) c.smooth-down.ensures.0 c.smooth-along.ensures.0
-          ∙ both_rough c.requires c.order_of-z.ensures c.across_of-across.ensures c.columns_of-columns.ensures c.constant_of-k.ensures c.second_of-second.ensures)
-          (rough_fits c.requires.given),
-      both_added c.requires c.order_of-z.ensures c.across_of-across.ensures c.columns_of-columns.ensures c.constant_of-k.ensures c.second_of-second.ensures c.smooth-down.ensures.1 c.smooth-along.ensures.1,
-    )
+  gives
+      (two_is (smooth-down-requires c.before.before.before.before.before) (smooth-along-requires c.before.before) (omega arith) c.smooth-down.ensures.0 c.smooth-along.ensures.0
+      ∙ both_rough c.requires c.order_of-z.ensures c.across_of-across.ensures c.columns_of-columns.ensures c.constant_of-k.ensures c.second_of-second.ensures)
+      (rough_fits c.requires.given),
+  both_added c.requires c.order_of-z.ensures c.across_of-across.ensures c.columns_of-columns.ensures c.constant_of-k.ensures c.second_of-second.ensures c.smooth-down.ensures.1 c.smooth-along.ensures.1,
+)

@@ -46,6 +46,9 @@ returns c = let a = c.args in
     let f = F.ensures ∙ ap (λ (z : ℤ). nat_abs z) (to_z-of_z c.ranges.loss) in
     let g = G.ensures ∙ ap (λ (z : ℤ). nat_abs z) (to_z-of_z c.ranges.gap) in
     let el : links.result ≡ links_of words = links.ensures ∙ ap (count_at words) (c.links_at-at.ensures ∙ links_place words n.ensures) in
-    record { answer = ap₂ {C = Answer} (λ (x y : ℕ). record { number = 0; place = 0; loss = x; gap = y }) f g; shelf = c.keep_rates.ensures
+    record {
+      answer = ap₂ {C = Answer} (λ (x y : ℕ). record { number = 0; place = 0; loss = x; gap = y }) f g;
+      shelf = c.keep_rates.ensures
           ∙ ap₂ (λ (n l : ℕ). kept_from (layout_in shelf) words F.result G.result (taken_from 0 n rates) (taken_from n l rates) shelf) n.ensures el
-          ∙ ap₂ (λ (x y : ℕ). table_kept (layout_in shelf) words x y rates shelf) f g }
+          ∙ ap₂ (λ (x y : ℕ). table_kept (layout_in shelf) words x y rates shelf) f g;
+    }

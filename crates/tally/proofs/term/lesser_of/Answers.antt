@@ -3,7 +3,7 @@ use mathlib.Core.Bool.{Bool}
 use mathlib.Core.Path.{ap, ap₂, refl, sym, ◌∙◌}
 use lib.Signed.{le_z}
 use Rattle.whole.proofs.Fits.{gives}
-use Rattle.numbers.specs.Choice.{if◌then◌else◌}
+use Rattle.std.specs.Prelude.{if◌then◌else◌}
 use Rattle.tally.specs.declared.term.Supplied.TheVariants.{ByBox, ByWeight}
 use Rattle.tally.proofs.term.lesser_of.Goals as goal
 

@@ -1,12 +1,13 @@
 -- A line and a grid after their solve: the factor that a pass runs on, and the values that it starts from.
-use Prim.Native.Nat.{ℕ, ◌*◌, ◌≤◌}
+use Prim.Native.Nat.{ℕ, ◌+◌, ◌*◌, ◌≤◌}
 use mathlib.Core.Path.{◌≡◌, sym, ap, ◌∙◌}
-use mathlib.Core.List.{List}
+use mathlib.Core.List.{List, ◌++◌, append-nil}
 use native.Mathlib.Nat as N
 use native.Mathlib.Omega.{arith}
 use lib.IntN.{ℤ}
 use lib.Ieee.{Float}
-use lib.ListN.{length}
+use lib.ListN.{length, take, drop_of_length-le, take-append-drop}
+use lib.Seq.{sets, sets-eq}
 use Rattle.jobs.specs.Job.{Job}
 use Rattle.jobs.specs.Words.{cells_of, columns_of, order_of, job_of}
 use Rattle.factor.specs.declared.Ending.{Ending}
@@ -14,19 +15,34 @@ use Rattle.factor.specs.Places.{Starts, Placed}
 use Rattle.factor.proofs.Turns.{factor_length}
 use Rattle.house.specs.Known.{Known}
 use Rattle.house.specs.Band.{band_of}
-use Rattle.house.specs.Factoring.{Solved, Solves, rows_of, solved_with}
+use Rattle.house.specs.Factoring.{Solved, Solves, front, HandsOut, rows_of, solved_with}
 use Rattle.house.specs.Grid.{reach, grid_rows, grid_solved}
 use Rattle.house.specs.Held.{Narrow}
 use Rattle.house.specs.Proposal.{line_solved, solved_of}
 use Rattle.house.proofs.Told.{cells_few, order_few}
 use Rattle.house.proofs.Shaped.{one_column, more_columns}
 use Rattle.house.proofs.Places.{reach_few}
-use Rattle.house.proofs.Solving.{line_is, grid_is, line_places, grid_places}
+use Rattle.house.proofs.Solving.{line_is, grid_is, line_places, grid_places, pivots_length}
 use Rattle.linked.specs.Given.{Factored}
 
 pub line_room : (j : Job) → length (line_solved j).multipliers ≡ 480
 unfolding line_solved solved_with
 line_room j = factor_length (rows_of (band_of j)) j.order j.cells 0 _ _
+
+line_pivots : (j : Job) → length (line_solved j).pivots ≡ 120
+unfolding line_solved solved_with
+line_pivots j = pivots_length (rows_of (band_of j)) j.order j.cells 0 _ _
+
+-- a list that is as long as the room goes out whole
+front_whole : (room xs : List Float) → length xs ≡ length room → front room xs ≡ xs
+front_whole room xs e =
+    let all : take (length room) xs ≡ xs = sym (append-nil (take (length room) xs)) ∙ ap (λ (r : List Float). take (length room) xs ++ r) (sym (drop_of_length-le xs {i = length room} (omega (arith, e)))) ∙ take-append-drop (length room) xs in
+    ap (sets room 0) all ∙ sets-eq xs room 0 (omega (arith, e)) ∙ ap (λ (r : List Float). xs ++ r) (drop_of_length-le room {i = 0 + length xs} (omega (arith, e))) ∙ append-nil xs
+
+-- so a line's factor does
+pub line_out : (j : Job) (d₀ l₀ : List Float) → length d₀ ≡ 120 → length l₀ ≡ 480 → {e : Ending} {d l v : List Float} → HandsOut (line_solved j) d₀ l₀ e d l v
+    → Solves (line_solved j) e d l v
+line_out j d₀ l₀ hd hl h = (h.0, h.1 ∙ front_whole d₀ (line_solved j).pivots (line_pivots j ∙ sym hd), h.2 ∙ front_whole l₀ (line_solved j).multipliers (line_room j ∙ sym hl), h.3)
 
 pub grid_room : (j : Job) → length (grid_solved j).multipliers ≡ 4584
 unfolding grid_solved solved_with

@@ -78,23 +78,4 @@ need_program() {
   exit 1
 }
 
-# take_from_ci: after `rt ci` in a clone in which nothing was checked before: the checking program that it built, and the archive of the libraries that it
-# proved, over which the prover checks the thirteen calls once more. `rt run` and `rt lib` take nothing from `rt ci` and would prove all of these again.
-take_from_ci() {
-  local kit name rlib of words=() archive=target/staticlib/libbench.a
-  of=$(made_from)
-  put crates/checker/out/checker target/bin/checker "$of" || return
-  kit=$(dirname "$(rt doc)")
-  for name in std $(sed -n 's/^bench_c staticlib: *//p' crates.txt); do
-    rlib=$PWD/crates/$name/out/rlib/$name.rlib
-    [ -d "crates/$name" ] || rlib=$kit/rlibs/$name.rlib
-    [ -d "$rlib" ] || return 1
-    words+=(--extern "$name=$rlib")
-  done
-  mkdir -p "$(dirname "$archive")"
-  (cd crates/bench_c && rattle build --crate-name bench_c --crate-type staticlib src/lib.rt "${words[@]}" -L "dependency=$kit/rlibs" \
-    --antt-project "$kit/rattle/logic/antt-project.json" --logic-built "$kit/logic_built" --toolchain "$kit/toolchain" --backend llvm --jobs 2 \
-    -o "$OLDPWD/$archive") && echo "$of" >"$archive.of"
-}
-
 run_program() { run_x86 "target/bin/$1"; }

@@ -147,8 +147,8 @@
  *   - No two slices of one call overlap, unless the call only reads both. The counts of bench_clear are no part of the shelf: copy its row to clear
  *     it with the counts that it has. A pointer to const is only read.
  *   - BENCH_STACK_BYTES of stack are free, or for a job that is no grid BENCH_LINE_STACK_BYTES: a call puts its working room there. In
- *     bytes, as measured: check 20,624, terms 20,600, keep 21,824, fetch 20,704, read 17,080, write 17,224; propose 28,216 for a line and
- *     57,208 for a grid, propose_linked 33,496 and 64,328; import 22,216, export 416, rates 1,264; forget and clear below 100.
+ *     bytes, as measured: check 20,576, terms 20,496, keep 21,760, fetch 20,672, read 17,016, write 17,048; propose 33,184 for a line and
+ *     57,456 for a grid, propose_linked 33,888 and 63,240; import 22,104, export 288, rates 1,216; forget and clear below 100.
  *   - a call names the right society: every call acts for the society that its job pack or its argument names, whoever makes it.
  *
  * Calls may run at the same time on several threads as long as no slice that one of them writes is lent to another. Calls on different
@@ -200,7 +200,8 @@ extern "C" {
  *   6  comma lists: bench_import, bench_export and bench_rates, three calls more, with 16 to 19 for what is wrong with a list
  *   7  proposals that honour links: bench_propose_linked, a call more, with 14 where no pass is accepted and 21 for a number of passes not allowed
  *
- * Moving from version 6: every call that there was answers as it did, and takes no more stack, so nothing has to be changed or kept again. */
+ * Moving from version 6: every call that there was answers as it did, and takes no more stack, bench_propose alone excepted (above), so nothing has to be
+ * changed or kept again. */
 #define BENCH_VERSION 7
 
 /* No call needs more stack than this, and none on a job that is no grid more than the second. */

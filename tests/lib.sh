@@ -41,24 +41,39 @@ run_x86() {
   if on_x86; then "$@"; else qemu-x86_64 -cpu max,-erms -L /usr/x86_64-linux-gnu "$@"; fi
 }
 
-# make_archive: says in `archive` where the library's archive is: BENCH_ARCHIVE if that is set, else what the prover writes. Writing takes half a minute, so
-# it is done only where the archive is not of what is proved now: the prover's mark of that is kept beside it.
+# made_from: a checksum of all that the library's archive and the programs are made from.
+made_from() {
+  { rt version && cat crates.txt && find crates/*/src crates/*/specs crates/*/proofs -type f | LC_ALL=C sort | xargs -d '\n' sha256sum; } 2>/dev/null | sha256sum
+}
+
+# is_made FILE: whether what `put` put there was made from what stands here now.
+is_made() { [ -f "$1" ] && [ "$(cat "$1.of" 2>/dev/null)" = "$(made_from)" ]; }
+
+# put MADE FILE OF: puts what the prover made at FILE, and beside it OF, what made_from was before.
+put() { mkdir -p "$(dirname "$2")" && cp "$1" "$2" && echo "$3" >"$2.of"; }
+
+# make_archive: says in `archive` where the library's archive is: BENCH_ARCHIVE if that is set, else what the prover writes. Writing takes half a minute
+# or more, so it is done only where the archive is not of what stands here now.
 make_archive() {
+  local of
   archive=${BENCH_ARCHIVE:-target/staticlib/libbench.a}
   [ -n "${BENCH_ARCHIVE:-}" ] && return 0
   need_prover
-  rt check bench || return
-  [ -f "$archive" ] && cmp -s target/stamp/bench "$archive.of" && return 0
-  rt staticlib bench && cp target/stamp/bench "$archive.of"
+  is_made "$archive" && return 0
+  of=$(made_from)
+  (cd crates/bench_c && rt lib) && put crates/bench_c/out/libbench_c.a "$archive" "$of"
 }
 
 # need_program NAME: proves the program NAME and what it rests on, and so builds target/bin/NAME. Where nothing changed that takes no time.
 need_program() {
+  local of
   need_prover
   need_x86
   mkdir -p target
-  [ -f "target/stamp/$1" ] || echo "proving the program $1 and what it rests on first; this takes some minutes" >&2
-  rt check "$1" >target/need_program.log 2>&1 && return 0
+  is_made "target/bin/$1" && return 0
+  [ -f "target/bin/$1" ] || echo "proving the program $1 and what it rests on first; this takes some minutes" >&2
+  of=$(made_from)
+  (cd "crates/$1" && rt run <stdin) >target/need_program.log 2>&1 && put "crates/$1/out/$1" "target/bin/$1" "$of" && return 0
   cat target/need_program.log >&2
   exit 1
 }

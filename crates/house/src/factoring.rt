@@ -1,12 +1,12 @@
 // The factor of a line's band, row after row, up to the first thin pivot, and the values before rounding.
-ghost use Rattle.std.specs.Prelude.{◌≡◌, ◌+◌, ◌-◌, ◌<◌, ◌≤◌, length, take};
+ghost use Rattle.std.specs.Prelude.{◌≡◌, ◌+◌, ◌-◌, ◌<◌, ◌≤◌, length, replicate, take};
 ghost use Rattle.std.proofs.lemmas.List.Edits.{sets};
 ghost use Rattle.factor.specs.Factor.{lowest, start_of, factor_step, factor_from};
 ghost use Rattle.factor.specs.Places.{Placed};
 ghost use Rattle.jobs.specs.Words.{job_of, cells_of, order_of};
 ghost use Rattle.house.specs.Known.{Known};
-ghost use Rattle.house.specs.Band.{right_of};
-ghost use Rattle.house.specs.Factoring.{rows_of, answered, front, HandsOut};
+ghost use Rattle.house.specs.Band.{zero64, right_of};
+ghost use Rattle.house.specs.Factoring.{rows_of, answered, Solves, front, HandsOut};
 ghost use Rattle.house.specs.Proposal.{line_solved};
 
 use crate::band::band;
@@ -110,8 +110,29 @@ fn hand_out(from: &[f64], to: &mut [f64])
     put_row(&from[0..k], to, 0);
 }
 
-// How the factoring of a line ends; where it is whole, the values before rounding come in place of the right side. Pivots and multipliers go out as far as
-// room is lent for them: who has no use for them lends none.
+// How the factoring of a line ends, with its rows in lent lists of zeros; where it is whole, the values before rounding come in place of the right side.
+// The band and the copy in which it is made take room that only this function needs.
+#[inline(never)]
+pub fn solve_line_into(
+    words: &[i64],
+    z: usize,
+    v: &mut [f64; CELLS],
+    d: &mut [f64; CELLS],
+    l: &mut [f64; LINE_PLACES],
+) -> Ending
+    requires { Known words.now × (z ≡ order_of words.now) × (v.old ≡ right_of (job_of words.now)) × (d.old ≡ replicate 120 zero64) × (l.old ≡ replicate 480 zero64) }
+    ensures { Solves (line_solved (job_of words.now)) result d.new l.new v.new }
+{
+    let n = cells_of(words);
+    let a = band(words, n, z);
+    let starts = starts_of(n, z);
+    let ending = factor_band(a, n, z, &starts, d, l);
+    solve_whole(ending, d, l, &starts, v, n, z)
+}
+
+// The same with pivots and multipliers that go out as far as room is lent for them: who has no use for them lends none, and whoever solves a grid too
+// does not pay for a line's.
+#[inline(never)]
 pub fn solve_line(
     words: &[i64],
     z: usize,
@@ -122,13 +143,10 @@ pub fn solve_line(
     requires { Known words.now × (z ≡ order_of words.now) × (v.old ≡ right_of (job_of words.now)) × (length pivots.old ≤ 120) × (length multipliers.old ≤ 480) }
     ensures { HandsOut (line_solved (job_of words.now)) pivots.old multipliers.old result pivots.new multipliers.new v.new }
 {
-    let n = cells_of(words);
-    let a = band(words, n, z);
-    let starts = starts_of(n, z);
     let mut d = [0.0; CELLS];
     let mut l = [0.0; LINE_PLACES];
-    let ending = factor_band(a, n, z, &starts, &mut d, &mut l);
+    let ending = solve_line_into(words, z, v, &mut d, &mut l);
     hand_out(&d, pivots);
     hand_out(&l, multipliers);
-    solve_whole(ending, &d, &l, &starts, v, n, z)
+    ending
 }

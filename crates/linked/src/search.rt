@@ -13,7 +13,7 @@ use crate::Offer;
 use crate::rounded::{accepts, write_after};
 use factor::{CELLS, Ending, STARTS, starts_of};
 use house::band::right;
-use house::factoring::{LINE_PLACES, solve_line};
+use house::factoring::{LINE_PLACES, solve_line_into};
 use house::grid::{GRID_PLACES, solve_grid};
 use jobs::words::{cells_of, links_of, order_of};
 use packs::Outcome;
@@ -120,7 +120,7 @@ fn search_line(words: &[i64], z: usize, given: u64, out: &mut [u8]) -> Offer
     right(words, &mut v);
     let mut d = [0.0; CELLS];
     let mut l = [0.0; LINE_PLACES];
-    let ending = solve_line(words, z, &mut v, &mut d, &mut l);
+    let ending = solve_line_into(words, z, &mut v, &mut d, &mut l);
     let starts = starts_of(n, z);
     on_ending(ending, words, n, z, &d, &l, &starts, given, &mut v, out)
 }

@@ -1,5 +1,5 @@
 -- One column is a line's; a grid has more.
-use Rattle.std.proofs.Common.{◌*◌, ◌≤◌, sym, refl, ◌∙◌, ap₂, arith, rules}
+use Rattle.std.proofs.Common.{◌*◌, ◌≤◌, refl, ap₂, arith, rules}
 use native.Mathlib.Nat as N
 use lib.Ieee.{of_bits}
 use Rattle.house.proofs.Told.{order_few}

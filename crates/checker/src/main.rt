@@ -2,33 +2,32 @@
 // the crate `line`'s.
 #![tactic(auto)]
 
-ghost use Rattle.std.specs.Prelude.{◌≤◌, length, IfOk};
+ghost use Rattle.std.specs.Prelude.{◌≤◌, length};
 
-use std::io;
 use std::io::Read;
 
 // One byte more than an input may have, so that a longer one shows.
 const READ: usize = 8193;
 
-// Reads until the buffer is full or the input ends, and answers how many bytes it put at the buffer's start.
-fn read_full<R: Read>(from: &mut R, buf: &mut [u8]) -> io::Result<usize>
-    ensures { IfOk result (λ n. n ≤ length buf.new) }
+// Reads until the buffer is full or the input ends, and answers how many bytes it put at the buffer's start. A read that fails counts as the end.
+fn read_full<R: Read>(from: &mut R, buf: &mut [u8]) -> usize
+    ensures { result ≤ length buf.new }
 {
     let mut done = 0;
     while done < buf.len() {
-        let n = from.read(&mut buf[done..])?;
+        let n = from.read(&mut buf[done..]).unwrap_or(0);
         if n == 0 {
             break;
         }
         done += n;
     }
-    Ok(done)
+    done
 }
 
-fn main(rt: HostRuntime) -> io::Result<()> {
+fn main(rt: HostRuntime) {
     let mut input = [0u8; READ];
-    let n = read_full(&mut rt.stdin(), &mut input)?;
+    let n = read_full(&mut rt.stdin(), &mut input);
     let mut out = [0u8; 1024];
     let size = line::line_of(&input[..n], &mut out);
-    rt.write_all(&out[..size])
+    let _ = rt.write_all(&out[..size]);
 }

@@ -33,7 +33,8 @@ use Rattle.shelf.proofs.Sound.{Sound, accepted_sound}
 use Rattle.shelf.proofs.Spans.{Lawful, society_length, own as its_own, other}
 use Rattle.claims.specs.Lists.{Table, table_from, removed, kept, fetched, forgotten, Lists, on_list, from_list, kept_lists, lists_after, lists_say, Kept, emptied, kept_after, kept_say, lists_run}
 use Rattle.claims.specs.LastKept.{ClearedWith}
-use Rattle.claims.proofs.Tables.{all_kept, all_removed, few_kept, few_removed}
+use Rattle.claims.proofs.Every.{all_kept, all_removed}
+use Rattle.claims.proofs.Tables.{few_kept, few_removed}
 use Rattle.claims.proofs.Steps.{laid_row}
 use Rattle.claims.proofs.Laid.{slot, laid, Fits, AllFit, removed_laid, forgotten_laid, fetched_laid, kept_laid}
 

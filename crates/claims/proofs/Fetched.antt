@@ -35,7 +35,7 @@ use Rattle.claims.proofs.Accepted.{no_other_refusal}
 use Rattle.claims.proofs.Best.{best}
 use Rattle.claims.proofs.Far.{accepted_close, close_same}
 use Rattle.claims.proofs.Told.{handed_told}
-use Rattle.claims.proofs.Tables.{All, all_kept, all_removed}
+use Rattle.claims.proofs.Every.{All, all_kept, all_removed}
 use Rattle.claims.proofs.AsChecked.{value_kept, same_proposal, fetched_checked, counts_refused}
 use Rattle.claims.proofs.LastKept.{fetch_said}
 

@@ -19,7 +19,7 @@ use Rattle.slots.proofs.Stored.{padded_length}
 use Rattle.slots.proofs.Steps.{slot_length, drop_first, put_first, put_next, lowest_step, replaced_in, forgot_step, replaced_step}
 use Rattle.shelf.proofs.Picked.{forget_reply_step, fetch_step}
 use Rattle.claims.specs.Lists.{Table, is_of, holds, replaced, removed, youngest, kept, table_for, fetched, forgotten}
-use Rattle.claims.proofs.Tables.{All}
+use Rattle.claims.proofs.Every.{All}
 
 -- ---- the words of a list of tables
 abbrev pub slot : ℕ → Table → List ℕ

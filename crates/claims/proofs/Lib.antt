@@ -12,11 +12,13 @@ pub mod Told
 pub mod Lines
 pub mod Worked
 pub mod Promises
+pub mod Every
 pub mod Tables
 pub mod Laid
 pub mod Steps
 pub mod EightLists
 pub mod AsChecked
+pub mod Counted
 pub mod CountsPromises
 pub mod NoNeighbour
 pub mod LastKept

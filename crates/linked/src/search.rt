@@ -35,14 +35,11 @@ fn search(
     requires { Starting words.now n links z d.now l.now starts.now given v.old y.old }
     ensures { (result ≡ passes_before (job_of words.now) given) × (state v.new y.new ≡ after_pass (job_of words.now) (min (suc (passes_before (job_of words.now) given)) given)) }
 {
-    let mut p = 0;
-    while p < given {
+    for p in 0..given {
         pass(words, n, links, z, d, l, starts, v, y);
-        let done = accepts(words, n, links, v, y);
-        if done {
+        if accepts(words, n, links, v, y) {
             return p;
         }
-        p += 1;
     }
     given
 }

@@ -12,7 +12,7 @@ use Rattle.numbers.proofs.Clash.{clash}
 use Rattle.fields.specs.Table.{values_from}
 use Rattle.packs.specs.declared.Outcome.{Outcome}
 use Rattle.packs.specs.declared.Outcome.TheVariants.{Done, Refused as Refuses}
-use Rattle.packs.specs.Reading.{Ran, Hands, read_from}
+use Rattle.packs.specs.Reading.{Ran, read_from}
 use Rattle.packs.proofs.Near.{Near}
 use Rattle.jobs.specs.Words.{cells_of, links_of, job_of}
 use Rattle.jobs.specs.Allowed.{Allowed, Laid}
@@ -36,17 +36,6 @@ lent_length m ws l e = sym (ap length e ∙ length-sets (replicate m (pos 0)) 0 
 
 -- ---- a proposal for a job's words
 
--- with the counts that the code has
-pub proposal_handed : {ws : List ℤ} → Allowed (job_of ws) → Laid ws → {n links : ℕ} → n ≡ cells_of ws → links ≡ links_of ws → (proposal : List ℕ) {o : Outcome} (l₀ : List ℤ) {l : List ℤ}
-    → Hands (read_proposal n links proposal) l₀ o l → Hands (read_proposal (cells_of ws) (links_of ws) proposal) l₀ o l
-proposal_handed A L en el proposal {o} l₀ {l} h = subst₂ (λ (a b : ℕ). Hands (read_proposal a b proposal) l₀ o l) en el h
-
-pub opened_done : (k : ℕ) {r o : Outcome} {m : ℕ} → r ≡ Done m → r ≡ o → Both k m ≡ opened_for k o
-opened_done k u e = ap (opened_for k) (sym u ∙ e)
-
-pub opened_refused : (k : ℕ) {r o : Outcome} {number place : ℕ} → r ≡ Refuses number place → r ≡ o → Unread number place ≡ opened_for k o
-opened_refused k u e = ap (opened_for k) (sym u ∙ e)
-
 -- ---- a job, then its proposal
 
 module _ (job proposal : List ℕ) where
@@ -60,9 +49,6 @@ module _ (job proposal : List ℕ) where
   module _ {o : Outcome} (l₀ : List ℤ) {l : List ℤ} (long : length l₀ ≡ 2092) (eo : o ≡ (read_job job).outcome) (q : l ≡ sets l₀ 0 ws) where
     pub job_refused : {number place : ℕ} → o ≡ Refuses number place → Unread number place ≡ opened_of job proposal
     job_refused u = ap (λ (x : Outcome). opened_with x read.outcome) (sym u ∙ eo)
-
-    pub refused_left : {number place : ℕ} → o ≡ Refuses number place → (p : List ℤ) → p ≡ sets p 0 (proposal_words job proposal)
-    refused_left u p = ap (λ (x : Outcome). sets p 0 (if_read x read.words)) (sym u ∙ eo)
 
     module _ {k : ℕ} (u : o ≡ Done k) where
       few_words : k ≤ 2092

@@ -1,7 +1,7 @@
 -- What the check hands from one step to the next: the boxes, the walk over the links, and the gap that the running total decides.
 use Prim.Native.Nat.{ℕ, ◌+◌, ◌≤◌, ◌<◌}
 use mathlib.Core.Path.{◌≡◌, refl, sym, ap, ap₂, subst, subst₂, ◌∙◌}
-use mathlib.Core.Bool.{Bool, true, false, ◌&&◌}
+use mathlib.Core.Bool.{Bool, true, false}
 use mathlib.Core.List.{List}
 use native.Mathlib.Nat as N
 use native.Mathlib.Omega.{arith}
@@ -24,7 +24,7 @@ use Rattle.tally.specs.declared.Tally.{Tally}
 use Rattle.tally.specs.Largest.{largest_of}
 use Rattle.tally.specs.Given.{Led}
 use Rattle.tally.specs.Tally.{run_of, top_of, tallied_of, place_of}
-use Rattle.tally.proofs.Locals.{read, rate_read, tolerance_fits}
+use Rattle.tally.proofs.Locals.{read, tolerance_fits}
 use Rattle.tally.proofs.Terms.{true_t}
 use Rattle.tally.proofs.Totals.{Runs, run_least, run_small, run_fits, Tells, tells_start, run_tells, not_le_lt, lt_not_le}
 use Rattle.tally.proofs.Largest.{top_small, largest_few}
@@ -35,31 +35,15 @@ use Rattle.measure.specs.declared.links.Walked.TheVariants.{Unmet, Held}
 use Rattle.measure.specs.Gap.{gap_of}
 use Rattle.measure.specs.Largest.{largest_place}
 use Rattle.measure.specs.Check.{lowest_failing, verdict_of, verdict_for}
-use Rattle.measure.specs.Given.{Given, Smoothing, Losing, Walking, Totalling, Parted, Judging}
+use Rattle.measure.specs.Given.{Given, Smoothing, Walking, Totalling, Parted, Judging}
 use Rattle.measure.specs.Running.{Added, walk_of, outside, met_of, walked_links}
-use Rattle.measure.specs.OnWords.{multiplier_on, in_box_on, holds_on, loss_on, rough_on, smooth_on, cell_term_on, link_term_on, gap_on, judged_on, held_on, parts_on, walk_on, met_on, walked_on}
-use Rattle.measure.proofs.Directions.{rough_fits, loss_in_64}
+use Rattle.measure.specs.OnWords.{multiplier_on, in_box_on, holds_on, loss_on, smooth_on, cell_term_on, link_term_on, gap_on, judged_on, held_on, parts_on, walk_on, met_on, walked_on}
+use Rattle.measure.proofs.Directions.{loss_in_64}
 use Rattle.measure.proofs.Largest.{place_is}
 use Rattle.measure.proofs.Lowest.{Passed, lowest_all, passed_all}
 use Rattle.measure.proofs.Scattered.{added_none}
 use Rattle.measure.proofs.Walks.{links_run, parts_small}
 use Rattle.measure.proofs.Totalled.{cells_run}
-
--- ---- a cell's box, in code
-
-module _ {ws ps : List ℤ} (G : Given ws ps) (i : ℕ) (h : i < cells_of ws) where
-  -- with the words that the code has
-  module _ {lo hi : ℤ} (el : lo ≡ (job_of ws).floor i) (eh : hi ≡ (job_of ws).ceiling i) where
-    floor_is : le_z (read lo) (read (word_at ps i)) ≡ le_z ((job_of ws).floor i) (word_at ps i)
-    floor_is = ap₂ le_z (ap read el ∙ rate_read (G.allowed.cell i h).floor) (rate_read (G.proposed.value i h))
-
-    pub box_high : le_z (read lo) (read (word_at ps i)) ≡ true → le_z (read (word_at ps i)) (read hi) ≡ in_box_on ws ps i
-    box_high e =
-        ap₂ le_z (rate_read (G.proposed.value i h)) (ap read eh ∙ rate_read (G.allowed.cell i h).ceiling)
-        ∙ ap (λ (a : Bool). a && le_z (word_at ps i) ((job_of ws).ceiling i)) (sym (sym floor_is ∙ e))
-
-    pub box_low : le_z (read lo) (read (word_at ps i)) ≡ false → false ≡ in_box_on ws ps i
-    box_low e = ap (λ (a : Bool). a && le_z (word_at ps i) ((job_of ws).ceiling i)) (sym (sym floor_is ∙ e))
 
 -- ---- 7, 8, and what is left
 
@@ -208,10 +192,6 @@ module _ {ws ps : List ℤ} {n : ℕ} {links : Tally} {parts : List ℤ} (J : Ju
 
   abbrev n_is : n ≡ cells_of ws
   n_is = J.parted.table.n_is
-
-  module _ {rough : ℤ} (er : rough ≡ rough_on ws ps) where
-    pub judge_losing : Losing ws ps n (read rough)
-    judge_losing = record { given = given; n_is = n_is; rough_is = gives er (rough_fits (given)) }
 
   module _ {parts' : List ℤ} (A : Added (smooth_on ws ps) parts parts') where
     linked : Runs (job_of ws).tolerance (pos 0) (link_term_on ws ps) (links_of ws)

@@ -43,9 +43,6 @@ module _ {ws ps : List ℤ} {s : ℕ} (L : Linked ws ps s) where
   link_value : (m : ℕ) → m < count_at ws s → Upto 1000000 (word_at ps (count_at ws (s + 1 + 2 * m)))
   link_value m h = L.proposed.value (count_at ws (s + 1 + 2 * m)) (L.link.cell_inside m h)
 
-  pub link_cell_inside : (m : ℕ) → m < count_at ws s → count_at ws (s + 1 + 2 * m) < length ps
-  link_cell_inside m h = omega (arith, L.link.cell_inside m h, L.proposed.count)
-
   pub sum_adds : Adds (λ m. word_at ws (s + 2 + 2 * m) *ℤ word_at ps (count_at ws (s + 1 + 2 * m))) (count_at ws s) 10000000
   sum_adds = record {
     small = λ m h. bound-* (word_at ws (s + 2 + 2 * m)) (word_at ps (count_at ws (s + 1 + 2 * m))) (L.link.coefficient m h) (link_value m h).small;
@@ -63,9 +60,6 @@ module _ {ws ps : List ℤ} {s : ℕ} (L : Linked ws ps s) where
   sum_small : nat_abs (sum_at ws s (word_at ps)) ≤ 40000000
   unfolding sum_at
   sum_small = N.le_trans (partial_small sum_adds (count_at ws s) (N.le_refl (count_at ws s))) (omega (arith, L.link.terms.small))
-
-pub bound_read : {ws : List ℤ} {s : ℕ} → LinkAt ws s → {t : ℕ} → t ≡ count_at ws s → read (word_at ws (s + 1 + 2 * t)) ≡ bound_at ws s
-bound_read {ws} {s} L e = gives (ap (λ (x : ℕ). word_at ws (s + 1 + 2 * x)) e) (small_fits (bound_at ws s) L.bound (lit< tt))
 
 -- ---- the links of a job, by the words where they start
 

@@ -14,7 +14,4 @@ abbrev pub multipliers : List Float → (n : ℕ) → ℕ → ℤ
 multipliers y n i = multiplier_word (get_or y (i - n) nan)
 
 abbrev pub invariant-loop-at : goal.invariant-loop-at
-invariant-loop-at l = (l.n ≤ l.at) × (l.at ≤ l.count) × (filled (multipliers l.y l.n) (l.count - l.at) l.at l.made ≡ filled (multipliers l.y l.n) l.links l.n l.initial.made)
-
-abbrev pub decreases-loop-at : goal.decreases-loop-at
-decreases-loop-at l = l.count - l.at
+invariant-loop-at l = (filled (multipliers l.y l.n) (l.count - l.at) l.at l.made ≡ filled (multipliers l.y l.n) l.links l.n l.initial.made)

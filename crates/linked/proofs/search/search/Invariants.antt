@@ -9,7 +9,4 @@ use Rattle.linked.proofs.Searching.{rejects}
 use Rattle.linked.proofs.search.search.Given as goal
 
 abbrev pub invariant-loop-p : goal.invariant-loop-p
-invariant-loop-p l = (l.p ≤ l.given) × (state l.v l.y ≡ after_pass (job_of l.words) l.p) × Passed (rejects (job_of l.words)) l.p
-
-abbrev pub decreases-loop-p : goal.decreases-loop-p
-decreases-loop-p l = l.given - l.p
+invariant-loop-p l = (state l.v l.y ≡ after_pass (job_of l.words) l.p) × Passed (rejects (job_of l.words)) l.p

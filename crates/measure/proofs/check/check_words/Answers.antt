@@ -1,10 +1,5 @@
 use mathlib.Core.Path.{sym, ◌∙◌}
 use Rattle.measure.proofs.Verdicts.{meet_judging, met_judged, met_refused, walking}
-use Rattle.jobs.proofs.words.cells_of.Reads as cells-of-reads
-use Rattle.measure.proofs.check.check_words.Reads as reads
-use Rattle.measure.proofs.check.check_words.Lts as lts
-use Rattle.measure.proofs.check.judged.Reads as judged-reads
-use Rattle.measure.proofs.meeting.meet.Reads as meet-reads
 use Rattle.measure.proofs.check.check_words.Goals as goal
 
 pub meet-walked-requires : goal.meet-walked-requires

@@ -1,7 +1,7 @@
 -- One turn of each loop of the factor and the solve, and its end: the loops run as their definitions do.
 use mathlib.Core.Path.{◌≡◌, refl, sym, ap, ◌∙◌}
 use mathlib.Core.Bool.{Bool, true, false}
-use mathlib.Core.List.{List}
+use mathlib.Core.List.{List, ◌++◌}
 use Prim.Native.Nat.{ℕ, zero, suc, ◌+◌, ◌-◌, ◌*◌, ◌≤◌, ◌<◌}
 use native.Mathlib.Nat as N
 use native.Mathlib.Omega.{arith}
@@ -9,7 +9,10 @@ use native.Mathlib.Numerals.{add-one}
 use lib.ListN.{length, get_or, set, take, drop, length-set, length-replicate, length-take, length-drop}
 use lib.Dec.{eqb, ltb}
 use borrow.Author.Tests.{eqb-true, eqb-false, ltb-true, ltb-false}
-use lib.Seq.{sets, length-sets, get_or-set_same, get_or-set_other, get_or-take, get_or-drop, drop-cons, drop-length}
+use Rattle.std.proofs.lemmas.Slice.{put_mid-paste}
+use Rattle.std.proofs.lemmas.List.Edits.{sets-eq}
+use borrow.Rule.Slice.PartMut.{put_mid}
+use lib.Seq.{paste, take-length, sets, length-sets, get_or-set_same, get_or-set_other, get_or-take, get_or-drop}
 use lib.IntN.{pos}
 use lib.Ieee.{Float, fin, binary64, sub, div, lt, of_bits, nan}
 use Rattle.factor.specs.declared.Pivot.{Pivot}
@@ -181,16 +184,11 @@ module _ (entries d l : List Float) (z j : ℕ) where
 
 -- ---- a row to its places
 
-module _ (l row : List Float) (at o : ℕ) where
-  pub put_more : o < length row → sets l (at + o) (drop o row) ≡ sets (set l (at + o) (get_or row o nan)) (at + (o + 1)) (drop (o + 1) row)
-  put_more h =
-      let e : at + (o + 1) ≡ suc (at + o) = omega arith in
-      rw (drop-cons row o nan h, e, add-one o)
-
-  pub put_done : length row ≤ o → o ≤ length row → sets l (at + o) (drop o row) ≡ l
-  put_done h k =
-      let e : o ≡ length row = omega arith in
-      rw (e, drop-length row)
+-- what a copy into a part leaves
+pub put_all : (l row now : List Float) (at k : ℕ) → at + length row ≤ length l → now ≡ row → k ≡ length row → put_mid at k l now ≡ sets l at row
+put_all l row now at k h e f =
+    let p : put_mid at k l now ≡ paste l at row (length row) = put_mid-paste at k l now row (length row) e (sym f) refl in
+    p ∙ ap (λ (r : List Float). take at l ++ r ++ drop (at + length row) l) (take-length row) ∙ sym (sets-eq row l at h)
 
 -- ---- the factoring, row by row
 

@@ -43,20 +43,12 @@ pub fn starts_of(n: usize, z: usize) -> [u16; STARTS]
 {
     let mut made = [0u16; STARTS];
     let mut at: usize = 0;
-    let mut j: usize = 0;
-    while j <= n {
+    for j in 0..n + 1 {
         made[j] = at as u16;
         let lo = lowest_of(j, z);
         at += j - lo;
-        j += 1;
     }
     made
-}
-
-fn wide(x: u16) -> usize
-    ensures { (result ≡ x) × (result < 65536) }
-{
-    x as usize
 }
 
 // Where row i starts.
@@ -64,7 +56,7 @@ pub fn start_at(starts: &[u16; STARTS], i: usize) -> usize
     requires { i ≤ 120 }
     ensures { (result ≡ get_or starts.now i 0) × (result < 65536) }
 {
-    wide(starts[i])
+    usize::from(starts[i])
 }
 
 // x less (L(j,m) d(m)) L(i,m), for m rising from lo to i - 1; lj and li are the multipliers of the rows j and i.
@@ -81,12 +73,10 @@ fn less_products(
     ensures { result ≡ less_by (product_of lj.now j li.now i d.now) lo (i - lo) x }
 {
     let mut rest = x;
-    let mut m = lo;
-    while m < i {
+    for m in lo..i {
         let p = j - m - 1;
         let q = i - m - 1;
         rest = rest - (lj[p] * d[m]) * li[q];
-        m += 1;
     }
     rest
 }
@@ -105,8 +95,7 @@ fn multipliers_into(
     requires { (lo ≡ lowest j z) × (j < 120) × (z < length entries.now) × Placed z j starts.now l.now × (length made.old ≡ j - lo) }
     ensures { made.new ≡ row_from z entries.now d.now l.now j lo (j - lo) lo made.old }
 {
-    let mut i = lo;
-    while i < j {
+    for i in lo..j {
         let offset = j - i;
         let at = start_at(starts, i);
         let next = i + 1;
@@ -114,7 +103,6 @@ fn multipliers_into(
         let rest = less_products(made, &l[at..end], d, entries[offset], j, i, lo);
         let place = offset - 1;
         made[place] = rest / d[i];
-        i += 1;
     }
 }
 
@@ -161,10 +149,5 @@ pub fn put_row(row: &[f64], l: &mut [f64], at: usize)
     requires { at + length row.now ≤ length l.old }
     ensures { l.new ≡ sets l.old at row.now }
 {
-    let mut o = 0;
-    while o < row.len() {
-        let place = at + o;
-        l[place] = row[o];
-        o += 1;
-    }
+    l[at..at + row.len()].copy_from_slice(row);
 }

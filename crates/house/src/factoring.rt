@@ -81,8 +81,7 @@ pub fn factor_band(
     requires { (n ≤ 120) × (z ≤ 4) × Placed z n starts.now l.old }
     ensures { (result ≡ (factor_from (rows_of band) z n 0 d.old l.old).ending) × (d.new ≡ (factor_from (rows_of band) z n 0 d.old l.old).pivots) × (l.new ≡ (factor_from (rows_of band) z n 0 d.old l.old).multipliers) }
 {
-    let mut j = 0;
-    while j < n {
+    for j in 0..n {
         let entries = band[j];
         let step = factor_step(entries, d, l, starts, j, z);
         let row = step.row;
@@ -96,7 +95,6 @@ pub fn factor_band(
             }
             Pivot::Accepted(_) => {}
         }
-        j += 1;
     }
     Ending::Whole
 }

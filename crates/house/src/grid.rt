@@ -75,12 +75,10 @@ fn spread(columns: usize, z: usize, below: &[f64; 5], beside: &[f64; 5], made: &
     requires { (1 ≤ columns) × (z ≤ 48) × (z < 5 * columns) }
     ensures { made.new ≡ spread_of columns z below.now beside.now made.old }
 {
-    let mut o: usize = 0;
     let mut t: usize = 0;
     let mut past: usize = 0;
-    while o <= z {
+    for o in 0..z + 1 {
         made[o] = entry_at(below, beside, o, t, past);
-        o += 1;
         past += 1;
         if past == columns {
             past = 0;
@@ -162,8 +160,7 @@ fn factor_grid(
     requires { Narrow words.now z × (n ≡ cells_of words.now) × IsRow (order_of words.now) downs.now × IsRow (across_of words.now) sides.now × Placed z n starts.now l.old }
     ensures { (result ≡ (factor_from (grid_rows (job_of words.now)) z n 0 d.old l.old).ending) × (d.new ≡ (factor_from (grid_rows (job_of words.now)) z n 0 d.old l.old).pivots) × (l.new ≡ (factor_from (grid_rows (job_of words.now)) z n 0 d.old l.old).multipliers) }
 {
-    let mut j = 0;
-    while j < n {
+    for j in 0..n {
         let pivot = grid_step(words, downs, sides, d, l, starts, j, z);
         let x = value_of(pivot);
         d[j] = x;
@@ -173,7 +170,6 @@ fn factor_grid(
             }
             Pivot::Accepted(_) => {}
         }
-        j += 1;
     }
     Ending::Whole
 }

@@ -37,11 +37,9 @@ pub fn values_into(words: &[i64], n: usize, v: &[f64; CELLS], made: &mut [i64])
     requires { Known words.now × (n ≡ cells_of words.now) × (n ≤ length made.old) }
     ensures { made.new ≡ filled (λ i. value_of (job_of words.now) i (slice_index_or v.now i nan)) n 0 made.old }
 {
-    let mut i = 0;
-    while i < n {
+    for i in 0..n {
         let x = v[i];
         made[i] = value_at(words, i, x);
-        i += 1;
     }
 }
 

@@ -1,4 +1,4 @@
-use mathlib.Core.Path.{◌≡◌, sym, ap, ap₂, ◌∙◌}
+use mathlib.Core.Path.{sym, ap, ap₂, ◌∙◌}
 use Prim.Native.Nat.{ℕ, ◌+◌, ◌-◌, ◌*◌, ◌<◌, ◌≤◌}
 use mathlib.Core.List.{List}
 use lib.IntN.{ℤ}
@@ -15,11 +15,6 @@ use Rattle.passes.proofs.link.right_for.Goals as goal
 
 pub count_at-t-requires : goal.count_at-t-requires
 count_at-t-requires c = link_counts c.requires.0
-
-pub loop-m-init : goal.loop-m-init
-loop-m-init c = let t = c.count_at-t.result in
-    let e : t - 0 ≡ t = omega arith in
-    (omega arith, rw e)
 
 pub cell_at-cell-requires : goal.cell_at-cell-requires
 cell_at-cell-requires c = (c.requires.0, omega (arith, c.count_at-t.ensures))
@@ -40,14 +35,12 @@ bounds-made-cell c = omega (arith, c.cell_at-cell.ensures, cell {m = c.loop-m.m}
 pub loop-m-preserved : goal.loop-m-preserved
 loop-m-preserved c = let k = link_at c.args.words.now c.args.s in
     let t = c.count_at-t.result in
-    let m = c.loop-m.m in (
-      omega arith,
-      ap₂ {C = List Float} (λ (i : ℕ) (a : Float). placed_from k (t - (m + 1)) (m + 1) (set c.loop-m.made i a)) c.cell_at-cell.ensures c.coefficient_at-a.ensures
-          ∙ sym (placed_more k m t c.loop-m.made (omega arith)) ∙ c.loop-m.invariant.1,
-    )
+    let m = c.loop-m.m in
+    ap₂ {C = List Float} (λ (i : ℕ) (a : Float). placed_from k (t - (m + 1)) (m + 1) (set c.loop-m.made i a)) c.cell_at-cell.ensures c.coefficient_at-a.ensures
+    ∙ sym (placed_more k m t c.loop-m.made (omega arith)) ∙ c.loop-m.invariant
 
 pub returns : goal.returns
 unfolding of_bits
 returns c = let k = link_at c.args.words.now c.args.s in
     let t = c.count_at-t.result in
-    sym (placed_done k c.loop-m.m t c.loop-m.made (omega arith)) ∙ c.loop-m.invariant.1 ∙ ap (λ (n : ℕ). placed_from k n 0 _) c.count_at-t.ensures
+    sym (placed_done k c.loop-m.m t c.loop-m.made (omega arith)) ∙ c.loop-m.invariant ∙ ap (λ (n : ℕ). placed_from k n 0 _) c.count_at-t.ensures

@@ -1,4 +1,4 @@
-use mathlib.Core.Path.{◌≡◌, sym, ap, ap₂, ◌∙◌}
+use mathlib.Core.Path.{sym, ap, ap₂, ◌∙◌}
 use Prim.Native.Nat.{ℕ, ◌+◌, ◌-◌, ◌*◌, ◌<◌, ◌≤◌}
 use mathlib.Core.List.{List}
 use lib.IntN.{ℤ}
@@ -15,11 +15,6 @@ use Rattle.passes.proofs.link.sum_over.Goals as goal
 
 pub count_at-t-requires : goal.count_at-t-requires
 count_at-t-requires c = link_counts c.requires.0
-
-pub loop-m-init : goal.loop-m-init
-loop-m-init c = let t = c.count_at-t.result in
-    let e : t - 0 ≡ t = omega arith in
-    (omega arith, rw e)
 
 pub cell_at-cell-requires : goal.cell_at-cell-requires
 cell_at-cell-requires c = (c.requires.0, omega (arith, c.count_at-t.ensures))
@@ -41,13 +36,11 @@ pub loop-m-preserved : goal.loop-m-preserved
 loop-m-preserved c = let xs = c.args.xs.now in
     let t = term_over (link_at c.args.words.now c.args.s) xs in
     let n = c.count_at-t.result in
-    let m = c.loop-m.m in (
-      omega arith,
-      ap₂ {C = Float} (λ (i : ℕ) (a : Float). plus_by t (m + 1) (n - (m + 1)) (add binary64 c.loop-m.total (mul binary64 a (get_or xs i nan)))) c.cell_at-cell.ensures c.coefficient_at-a.ensures
-          ∙ sym (plus_more t m n c.loop-m.total (omega arith)) ∙ c.loop-m.invariant.1,
-    )
+    let m = c.loop-m.m in
+    ap₂ {C = Float} (λ (i : ℕ) (a : Float). plus_by t (m + 1) (n - (m + 1)) (add binary64 c.loop-m.total (mul binary64 a (get_or xs i nan)))) c.cell_at-cell.ensures c.coefficient_at-a.ensures
+    ∙ sym (plus_more t m n c.loop-m.total (omega arith)) ∙ c.loop-m.invariant
 
 pub returns : goal.returns
 unfolding sum_over of_bits
 returns c = let t = term_over (link_at c.args.words.now c.args.s) c.args.xs.now in
-    sym (plus_done t c.loop-m.m c.count_at-t.result c.loop-m.total (omega arith)) ∙ c.loop-m.invariant.1 ∙ ap (λ (n : ℕ). plus_by t 0 n _) c.count_at-t.ensures
+    sym (plus_done t c.loop-m.m c.count_at-t.result c.loop-m.total (omega arith)) ∙ c.loop-m.invariant ∙ ap (λ (n : ℕ). plus_by t 0 n _) c.count_at-t.ensures

@@ -15,18 +15,11 @@ pub const CELLS: usize = 120;
 // The places of a list of starts: one a row, and one for the end.
 pub const STARTS: usize = 121;
 
-// What a step answers of its pivot.
+// Where a factoring is thin: the cell, and the pivot that failed there.
 #[derive(Clone, Copy)]
-pub enum Pivot {
-    Accepted(f64),
-    Thin(f64),
-}
-
-// How the factoring ends: with every row, or thin at a cell, with the pivot that failed.
-#[derive(Clone, Copy)]
-pub enum Ending {
-    Whole,
-    Thin(usize, f64),
+pub struct Thin {
+    pub cell: usize,
+    pub pivot: f64,
 }
 
 // max(0, j - z)
@@ -106,23 +99,23 @@ fn multipliers_into(
     }
 }
 
-// A pivot that is greater than 1/1,024 is accepted.
-fn judge(x: f64) -> Pivot
+// A pivot that is greater than 1/1,024 is accepted; any other is the error.
+fn judge(x: f64) -> Result<f64, f64>
     ensures { result ≡ judged x }
 {
     if x > 0.0009765625 {
-        return Pivot::Accepted(x);
+        return Ok(x);
     }
-    Pivot::Thin(x)
+    Err(x)
 }
 
 // d(j) of a step's answer, whichever it is.
-pub fn value_of(pivot: Pivot) -> f64
+pub fn value_of(pivot: Result<f64, f64>) -> f64
     ensures { result ≡ value_of pivot }
 {
     match pivot {
-        Pivot::Accepted(x) => x,
-        Pivot::Thin(x) => x,
+        Ok(x) => x,
+        Err(x) => x,
     }
 }
 
@@ -135,7 +128,7 @@ pub fn factor_row(
     j: usize,
     z: usize,
     made: &mut [f64],
-) -> Pivot
+) -> Result<f64, f64>
     requires { (j < 120) × (z < length entries.now) × Placed z j starts.now l.now × (made.old ≡ no_multipliers (j - lowest j z)) }
     ensures { (result ≡ judged (factor_step entries.now d.now l.now z j).pivot) × (made.new ≡ (factor_step entries.now d.now l.now z j).multipliers) }
 {

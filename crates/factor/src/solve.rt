@@ -4,7 +4,7 @@ ghost use Rattle.factor.specs.Factor.{less_by};
 ghost use Rattle.factor.specs.Places.{Placed};
 ghost use Rattle.factor.specs.Solve.{highest, lower_term, upper_term, forward_from, divided_from, backward_from, solution_of, solved_by};
 
-use crate::{CELLS, Ending, STARTS, lowest_of, start_at};
+use crate::{CELLS, STARTS, Thin, lowest_of, start_at};
 
 // min(n - 1, j + z)
 fn highest_of(j: usize, z: usize, n: usize) -> usize
@@ -108,22 +108,18 @@ pub fn solve(
 
 // The same where the factor is whole; where it is thin, nothing is done. The ending is handed back.
 pub fn solve_whole(
-    ending: Ending,
+    ending: Result<(), Thin>,
     d: &[f64; CELLS],
     l: &[f64],
     starts: &[u16; STARTS],
     v: &mut [f64; CELLS],
     n: usize,
     z: usize,
-) -> Ending
+) -> Result<(), Thin>
     requires { (n ≤ 120) × (z ≤ 120) × Placed z n starts.now l.now }
     ensures { (result ≡ ending) × (v.new ≡ solved_by z n v.old d.now l.now ending) }
 {
-    match ending {
-        Ending::Thin(cell, pivot) => Ending::Thin(cell, pivot),
-        Ending::Whole => {
-            solve(d, l, starts, v, n, z);
-            Ending::Whole
-        }
-    }
+    ending?;
+    solve(d, l, starts, v, n, z);
+    Ok(())
 }

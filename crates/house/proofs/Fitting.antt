@@ -1,5 +1,5 @@
 -- The promises of the house proposal: what is done was written whole, so it reads back as the words that were written, and each of them is known.
-use Rattle.std.proofs.Common.{◌≡◌, ℕ, ◌+◌, ◌<◌, ◌≤◌, Bool, true, false, ltb, List, length, get_or, replicate, ℤ, pos, sym, refl, ap, ◌∙◌, subst, inr, arith, ltb-false}
+use Rattle.std.proofs.Common.{◌≡◌, ℕ, ◌+◌, ◌<◌, ◌≤◌, Bool, true, false, ltb, List, length, get_or, replicate, ℤ, pos, sym, refl, ap, ◌∙◌, subst, inr, arith, ltb-false, Ok, Err}
 use native.Mathlib.Nat as N
 use lib.Ieee.{Float, nan}
 use lib.ListN.{length-replicate}
@@ -18,8 +18,7 @@ use Rattle.jobs.specs.Allowed.{Allowed, Proposed}
 use Rattle.jobs.specs.Packs.{read_job, write_proposal}
 use Rattle.jobs.proofs.Places.{zeros_at}
 use Rattle.jobs.proofs.Readings.{read_jobs_allowed, six_done}
-use Rattle.factor.specs.declared.Ending.{Ending}
-use Rattle.factor.specs.declared.Ending.TheVariants.{Whole, Thin}
+use Rattle.factor.specs.Factor.{Ending}
 use Rattle.house.specs.Proposal.{solved_of, value_of, words_of, on_ending, proposed_of, on_job_read}
 use Rattle.house.specs.Promises.{Fit, ProposalsFit, ProposalsCounted}
 use Rattle.house.proofs.Boxed.{value_between, value_small}
@@ -52,10 +51,10 @@ record Done-by (room : ℕ) (j : Job) (r : Written) (n : ℕ) : Type 0 where
   pub whole : Roomed room (write_proposal j.cells j.links (words_of j values)) r n
 
 on_ending_lem : (room : ℕ) (j : Job) (v : List Float) (e : Ending) (n : ℕ) → (on_ending room j v e).outcome ≡ Done n → Done-by room j (on_ending room j v e) n
-on_ending_lem room j v Whole n h =
+on_ending_lem room j v (Ok whole) n h =
     let w = write_proposal j.cells j.links (words_of j v) in
     record { values = v; whole = in_room_lem room w.bytes w.outcome n h }
-on_ending_lem room j v (Thin cell pivot) n h = clash (cc)
+on_ending_lem room j v (Err thin) n h = clash (cc)
 
 proposed : (room : ℕ) (j : Job) (n : ℕ) → (proposed_of room j).outcome ≡ Done n → Done-by room j (proposed_of room j) n
 unfolding proposed_of

@@ -1,6 +1,6 @@
 -- From the pack to the solve and from the values to the pack: the scratch that a job is read into holds its words, and what is written are the
 -- proposal's words.
-use Rattle.std.proofs.Common.{◌≡◌, ℕ, zero, suc, ◌+◌, ◌-◌, ◌<◌, ◌≤◌, Bool, List, ◌∷◌, ◌++◌, length, get_or, take, replicate, ℤ, pos, sym, refl, ap, ◌∙◌, arith, le-ltb, lt-ltb}
+use Rattle.std.proofs.Common.{◌≡◌, ℕ, zero, suc, ◌+◌, ◌-◌, ◌<◌, ◌≤◌, Bool, List, ◌∷◌, ◌++◌, length, get_or, take, replicate, ℤ, pos, sym, refl, ap, ◌∙◌, arith, le-ltb, lt-ltb, Ok, Err}
 use lib.Ieee.{Float, nan}
 use lib.ListN.{length-replicate, replicate-append-replicate}
 use lib.Seq.{sets}
@@ -13,8 +13,8 @@ use Rattle.jobs.specs.Words.{job_of}
 use Rattle.jobs.specs.Packs.{read_job}
 use Rattle.jobs.proofs.Readings.{read_jobs_allowed, read_jobs_laid}
 use Rattle.jobs.proofs.Handed.{scratch_part}
-use Rattle.factor.specs.declared.Ending.{Ending}
-use Rattle.factor.specs.declared.Ending.TheVariants.{Whole, Thin}
+use Rattle.factor.specs.declared.Thin.{Thin}
+use Rattle.factor.specs.Factor.{Ending}
 use Rattle.house.specs.Known.{Known}
 use Rattle.house.specs.Factoring.{Solved}
 use Rattle.house.specs.Filled.{filled}
@@ -44,10 +44,10 @@ module _ (room : ℕ) (j : Job) (few : j.columns ≤ 12) where
   narrow_proposed =
       ap {B = Written} (λ (b : Bool). if b then refused 20 0 else on_ending room j (solved_of j).values (solved_of j).ending) (sym (le-ltb 12 j.columns few))
 
-  pub thin_refused : {cell : ℕ} {x : Float} → (solved_of j).ending ≡ Thin cell x → refused 10 cell ≡ proposed_of room j
+  pub thin_refused : {thin : Thin} → (solved_of j).ending ≡ Err thin → refused 10 thin.cell ≡ proposed_of room j
   thin_refused t = ap {B = Written} (on_ending room j (solved_of j).values) (sym t) ∙ narrow_proposed
 
-  pub whole_written : (solved_of j).ending ≡ Whole → written_of room j (solved_of j).values ≡ proposed_of room j
+  pub whole_written : (solved_of j).ending ≡ Ok tt → written_of room j (solved_of j).values ≡ proposed_of room j
   whole_written t = ap {B = Written} (on_ending room j (solved_of j).values) (sym t) ∙ narrow_proposed
 
 -- what a solve by another name answers and leaves

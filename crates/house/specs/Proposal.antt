@@ -1,6 +1,6 @@
 -- The house proposal (document 01, "The house proposal", and "Order": "For the house proposal 10 follows the job. Output room comes last, when the
 -- needed length is known."; document 02, W-205: "The house proposal covers grids of at most 12 columns").
-use Rattle.std.specs.Prelude.{ℕ, ◌+◌, List, replicate, ℤ, pos, nat_lt, slice_index_or, unsigned_abs, Float}
+use Rattle.std.specs.Prelude.{ℕ, ◌+◌, List, replicate, ℤ, pos, nat_lt, slice_index_or, unsigned_abs, Float, Ok, Err}
 use Rattle.std.specs.Float.{nan}
 use Rattle.std.specs.Prelude.{if◌then◌else◌}
 use Rattle.packs.specs.declared.Outcome.{Outcome}
@@ -9,8 +9,7 @@ use Rattle.packs.specs.Writing.{Written, refused, roomed}
 use Rattle.jobs.specs.Job.{Job}
 use Rattle.jobs.specs.Words.{job_of}
 use Rattle.jobs.specs.Packs.{read_job, write_proposal}
-use Rattle.factor.specs.declared.Ending.{Ending}
-use Rattle.factor.specs.declared.Ending.TheVariants.{Whole, Thin}
+use Rattle.factor.specs.Factor.{Ending}
 use Rattle.house.specs.Filled.{filled}
 use Rattle.house.specs.Band.{band_of, right_of}
 use Rattle.house.specs.Factoring.{Solved, rows_of, solved_with}
@@ -45,8 +44,8 @@ written_of room j v = roomed room (write_proposal j.cells j.links (words_of j v)
 
 -- "10: house proposal: data too thin: cell"
 abbrev pub on_ending : (room : ℕ) → Job → List Float → Ending → Written
-on_ending room j v Whole = written_of room j v
-on_ending room j v (Thin cell pivot) = refused 10 cell
+on_ending room j v (Ok whole) = written_of room j v
+on_ending room j v (Err thin) = refused 10 thin.cell
 
 -- "20 for a wider grid at the house proposal, before 10, place 0"
 unfoldable pub proposed_of : (room : ℕ) → Job → Written

@@ -13,7 +13,7 @@ use crate::band::right;
 use crate::factoring::solve_line;
 use crate::grid::{GRID_PLACES, solve_grid};
 use crate::rounding::round_out;
-use factor::{CELLS, Ending, starts_of};
+use factor::{CELLS, Thin, starts_of};
 use fields::Field;
 use jobs::job::JOB_WORDS;
 use jobs::words::{ceiling_at, cells_of, columns_of, floor_at, links_of, natural, order_of};
@@ -56,13 +56,13 @@ fn write_values(words: &[i64], v: &[f64; CELLS], out: &mut [u8]) -> Outcome
 }
 
 // What is written by how the factoring ended.
-fn on_ending(ending: Ending, words: &[i64], v: &[f64; CELLS], out: &mut [u8]) -> Outcome
+fn on_ending(ending: Result<(), Thin>, words: &[i64], v: &[f64; CELLS], out: &mut [u8]) -> Outcome
     requires { Known words.now }
     ensures { Leaves (on_ending (length out.old) (job_of words.now) v.now ending) out.old result out.new }
 {
     match ending {
-        Ending::Thin(cell, _) => Outcome::Refused(10, cell),
-        Ending::Whole => write_values(words, v, out),
+        Err(thin) => Outcome::Refused(10, thin.cell),
+        Ok(()) => write_values(words, v, out),
     }
 }
 

@@ -16,15 +16,15 @@ offset_bounds-d-j c = let few = cells_few c.requires.0.known in let e = c.requir
 pub bounds-d-j : goal.bounds-d-j
 bounds-d-j c = let few = cells_few c.requires.0.known in let e = c.requires.1 in search rules
 
-pub shape_of-l-in-Thin : goal.shape_of-l-in-Thin
-shape_of-l-in-Thin c = let a = c.args in
+pub shape_of-l-in-Err : goal.shape_of-l-in-Err
+shape_of-l-in-Err c = let a = c.args in
     let step = c.grid_step-pivot in
     ap length step.ensures.1 ∙ length-sets c.loop-j.l (start_of a.z c.loop-j.j) (factor_step (grid_rows (job_of a.words.now) c.loop-j.j) c.loop-j.d c.loop-j.l a.z c.loop-j.j).multipliers ∙ c.loop-j.invariant.0
 
-pub returns-in-Thin : goal.returns-in-Thin
-returns-in-Thin c = let a = c.args in
+pub returns-in-Err : goal.returns-in-Err
+returns-in-Err c = let a = c.args in
     let step = c.grid_step-pivot.ensures in
-    parts (sym (answer_thin (grid_rows (job_of a.words.now)) a.z c.loop-j.j c.loop-j.d c.loop-j.l a.n (omega arith) step.0 c.value_of-x.ensures step.1 c.in-Thin.is) ∙ c.loop-j.invariant.1)
+    parts (sym (answer_thin (grid_rows (job_of a.words.now)) a.z c.loop-j.j c.loop-j.d c.loop-j.l a.n (omega arith) step.0 c.value_of-x.ensures step.1 c.in-Err.is) ∙ c.loop-j.invariant.1)
 
 pub loop-j-preserved : goal.loop-j-preserved
 loop-j-preserved c = let a = c.args in
@@ -32,7 +32,7 @@ loop-j-preserved c = let a = c.args in
     let j = c.loop-j.j in
     let band = grid_rows (job_of a.words.now) in (
       ap length step.1 ∙ length-sets c.loop-j.l (start_of a.z j) (factor_step (band j) c.loop-j.d c.loop-j.l a.z j).multipliers ∙ c.loop-j.invariant.0,
-      sym (answer_more band a.z j c.loop-j.d c.loop-j.l a.n (omega arith) step.0 c.value_of-x.ensures step.1 c.in-Accepted.is) ∙ c.loop-j.invariant.1,
+      sym (answer_more band a.z j c.loop-j.d c.loop-j.l a.n (omega arith) step.0 c.value_of-x.ensures step.1 c.in_default.is) ∙ c.loop-j.invariant.1,
     )
 
 pub shape_of-l : goal.shape_of-l

@@ -5,8 +5,8 @@ use Rattle.jobs.specs.Words.{job_of}
 use Rattle.house.specs.Proposal.{on_ending}
 use Rattle.house.proofs.proposal.on_ending.Goals as goal
 
-pub returns-in-Thin : goal.returns-in-Thin
-returns-in-Thin c = rw (← ap {B = Written} (on_ending (length c.args.out.now) (job_of c.args.words.now) c.args.v.now) (sym c.in-Thin.is)) (refl, refl)
+pub returns-in-Err : goal.returns-in-Err
+returns-in-Err c = rw (← ap {B = Written} (on_ending (length c.args.out.now) (job_of c.args.words.now) c.args.v.now) (sym c.in-Err.is)) (refl, refl)
 
-pub returns-in-Whole : goal.returns-in-Whole
-returns-in-Whole c = rw (← ap {B = Written} (on_ending (length c.args.out.now) (job_of c.args.words.now) c.args.v.now) (sym c.in-Whole.is)) c.write_values.ensures
+pub returns-in-Ok : goal.returns-in-Ok
+returns-in-Ok c = rw (← ap {B = Written} (on_ending (length c.args.out.now) (job_of c.args.words.now) c.args.v.now) (sym c.in-Ok.is)) c.write_values.ensures

@@ -29,6 +29,3 @@ loop-j-preserved c = let j = c.loop-j.j in
       length-set c.loop-j.made j c.loop-j.at ∙ c.loop-j.invariant.1,
       λ i h. ap (λ (x : ℕ). get_or (set c.loop-j.made j x) i 0) c.loop-j.invariant.0 ∙ more i h,
     )
-
-pub returns : goal.returns
-returns c = record { at = λ i h. c.loop-j.invariant.2 i (omega arith) }

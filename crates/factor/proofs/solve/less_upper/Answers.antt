@@ -6,16 +6,7 @@ use lib.ListN.{get_or}
 use Rattle.factor.specs.Factor.{less_by}
 use Rattle.factor.specs.Solve.{upper_term}
 use Rattle.factor.proofs.Turns.{less_more, less_done, read_inside, multiplier_read}
-use borrow.Author.Rules.{rules}
 use Rattle.factor.proofs.solve.less_upper.Goals as goal
-
-pub overflow_add-place : goal.overflow_add-place
-overflow_add-place c = let r = read_inside c.requires.3 c.loop-m.m c.args.j (omega arith) (omega arith) (omega arith) c.start_at-at.ensures.0 in
-    search rules
-
-pub offset_bounds-l-place : goal.offset_bounds-l-place
-offset_bounds-l-place c = let r = read_inside c.requires.3 c.loop-m.m c.args.j (omega arith) (omega arith) (omega arith) c.start_at-at.ensures.0 in
-    search rules
 
 pub bounds-l-place : goal.bounds-l-place
 bounds-l-place c = read_inside c.requires.3 c.loop-m.m c.args.j (omega arith) (omega arith) (omega arith) c.start_at-at.ensures.0

@@ -1,28 +1,11 @@
-use Rattle.std.proofs.Common.{◌≡◌, ℕ, ◌+◌, ◌-◌, ◌<◌, List, set, ◌*ℤ◌, sym, ap, ◌∙◌, ap₂, arith, rules}
+use Rattle.std.proofs.Common.{◌≡◌, ℕ, ◌+◌, ◌-◌, ◌<◌, List, set, ◌*ℤ◌, sym, ap, ◌∙◌, ap₂, arith}
 use lib.Ieee.{Float, binary64, of_int}
 use Rattle.jobs.specs.Words.{cells_of}
 use Rattle.house.specs.Filled.{filled}
 use Rattle.house.proofs.Fills.{filled_more, filled_done}
-use Rattle.house.proofs.Told.{cells_few, crude_is, crude_small, weight_is, weight_small}
+use Rattle.house.proofs.Told.{crude_is, weight_is}
 use Rattle.house.proofs.band.right.Invariants.{products}
 use Rattle.house.proofs.band.right.Goals as goal
-
-pub weight_at-w-requires : goal.weight_at-w-requires
-weight_at-w-requires c = (c.requires.0.allowed, (c.requires.0.laid, omega (arith, c.cells_of-n.ensures)))
-
-pub crude_at-u-requires : goal.crude_at-u-requires
-crude_at-u-requires c = (c.requires.0.allowed, (c.requires.0.laid, omega (arith, c.cells_of-n.ensures)))
-
-pub right_at-requires : goal.right_at-requires
-right_at-requires c = let ws = c.args.words.now in
-    let h : c.loop-i.i < cells_of ws = omega (arith, c.cells_of-n.ensures) in
-    rw (weight_is c.requires.0 h c.weight_at-w.ensures, crude_is c.requires.0 h c.crude_at-u.ensures) (weight_small c.requires.0 h, crude_small c.requires.0 h)
-
-pub offset_bounds-made-i : goal.offset_bounds-made-i
-offset_bounds-made-i c = let few = cells_few c.requires.0 in search rules
-
-pub bounds-made-i : goal.bounds-made-i
-bounds-made-i c = let few = cells_few c.requires.0 in search rules
 
 pub loop-i-preserved : goal.loop-i-preserved
 loop-i-preserved c = let n = c.cells_of-n in

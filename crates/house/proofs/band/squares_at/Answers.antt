@@ -1,7 +1,6 @@
-use Rattle.std.proofs.Common.{◌≡◌, ℕ, suc, refl, ap, ◌∙◌, arith}
+use Rattle.std.proofs.Common.{refl, arith}
 use Rattle.whole.specs.Sum.{sum}
 use Rattle.whole.proofs.Fits.{adds_fits, adds_next}
-use Rattle.house.specs.Band.{product_term}
 use Rattle.house.proofs.Sizes.{squares_adds}
 use Rattle.house.proofs.band.squares_at.Goals as goal
 
@@ -14,7 +13,3 @@ overflow_add-total c = adds_fits (squares_adds c.args.n c.args.z c.args.i c.args
 
 pub loop-m-preserved : goal.loop-m-preserved
 loop-m-preserved c = (adds_next (squares_adds c.args.n c.args.z c.args.i c.args.o c.requires.1) (omega arith) (record { is = c.loop-m.invariant }) c.product_term-total.ensures).is
-
-pub returns : goal.returns
-returns c = let e : c.loop-m.m ≡ suc c.args.z = omega arith in
-    c.loop-m.invariant ∙ ap (λ (m : ℕ). sum m (product_term c.args.n c.args.z c.args.i c.args.o)) e

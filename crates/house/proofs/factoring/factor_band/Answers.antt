@@ -14,11 +14,6 @@ put_made-requires c = let a = c.args in
     let len = line_length (rows_of a.band) c.loop-j.d c.loop-j.l a.z c.loop-j.j c.requires.1 c.factor_step-step.ensures in
     (omega arith, c.requires.1, fewer_rows (omega arith) (as_long c.requires.2 c.loop-j.invariant.0), len)
 
-pub shape_of-l-in-Err : goal.shape_of-l-in-Err
-shape_of-l-in-Err c = let a = c.args in
-    let s = c.factor_step-step.result in
-    ap length c.put_made.ensures ∙ length-sets c.loop-j.l (start_of a.z c.loop-j.j) (take (c.loop-j.j - lowest c.loop-j.j a.z) s.row.multipliers) ∙ c.loop-j.invariant.0
-
 pub returns-in-Err : goal.returns-in-Err
 returns-in-Err c = let a = c.args in
     let step = c.factor_step-step.ensures in
@@ -34,9 +29,6 @@ loop-j-preserved c = let a = c.args in
       ap length put ∙ length-sets c.loop-j.l (start_of a.z j) (take (j - lowest j a.z) c.factor_step-step.result.row.multipliers) ∙ c.loop-j.invariant.0,
       sym (answer_more (rows_of a.band) a.z j c.loop-j.d c.loop-j.l a.n c.loop-j-test.true told.0 told.1 (put ∙ told.2) c.in_default.is) ∙ c.loop-j.invariant.1,
     )
-
-pub shape_of-l : goal.shape_of-l
-shape_of-l c = c.loop-j.invariant.0
 
 pub returns : goal.returns
 returns c = let a = c.args in

@@ -1,25 +1,13 @@
-use Rattle.std.proofs.Common.{length, sym, ap, ◌∙◌, arith, rules}
+use Rattle.std.proofs.Common.{length, sym, ap, ◌∙◌, arith}
 use lib.Seq.{length-sets}
 use Rattle.factor.specs.Factor.{start_of, factor_step}
 use Rattle.factor.proofs.Turns.{as_long, fewer_rows, answer_more, answer_thin, factor_done, parts}
 use Rattle.jobs.specs.Words.{job_of}
 use Rattle.house.specs.Grid.{grid_rows}
-use Rattle.house.proofs.Told.{cells_few}
 use Rattle.house.proofs.grid.factor_grid.Goals as goal
 
 pub grid_step-pivot-requires : goal.grid_step-pivot-requires
 grid_step-pivot-requires c = (c.requires.0, omega (arith, c.requires.1), c.requires.2, c.requires.3, fewer_rows (omega arith) (as_long c.requires.4 c.loop-j.invariant.0))
-
-pub offset_bounds-d-j : goal.offset_bounds-d-j
-offset_bounds-d-j c = let few = cells_few c.requires.0.known in let e = c.requires.1 in search rules
-
-pub bounds-d-j : goal.bounds-d-j
-bounds-d-j c = let few = cells_few c.requires.0.known in let e = c.requires.1 in search rules
-
-pub shape_of-l-in-Err : goal.shape_of-l-in-Err
-shape_of-l-in-Err c = let a = c.args in
-    let step = c.grid_step-pivot in
-    ap length step.ensures.1 ∙ length-sets c.loop-j.l (start_of a.z c.loop-j.j) (factor_step (grid_rows (job_of a.words.now) c.loop-j.j) c.loop-j.d c.loop-j.l a.z c.loop-j.j).multipliers ∙ c.loop-j.invariant.0
 
 pub returns-in-Err : goal.returns-in-Err
 returns-in-Err c = let a = c.args in
@@ -34,9 +22,6 @@ loop-j-preserved c = let a = c.args in
       ap length step.1 ∙ length-sets c.loop-j.l (start_of a.z j) (factor_step (band j) c.loop-j.d c.loop-j.l a.z j).multipliers ∙ c.loop-j.invariant.0,
       sym (answer_more band a.z j c.loop-j.d c.loop-j.l a.n (omega arith) step.0 c.value_of-x.ensures step.1 c.in_default.is) ∙ c.loop-j.invariant.1,
     )
-
-pub shape_of-l : goal.shape_of-l
-shape_of-l c = c.loop-j.invariant.0
 
 pub returns : goal.returns
 returns c = let a = c.args in

@@ -1,31 +1,11 @@
-use Rattle.std.proofs.Common.{◌≡◌, ℕ, ◌+◌, ◌-◌, set, sym, ap, ◌∙◌, arith, rules}
-use native.Mathlib.Nat as N
+use Rattle.std.proofs.Common.{◌≡◌, ℕ, ◌+◌, ◌-◌, set, sym, ap, ◌∙◌, arith}
 use lib.Ieee.{Float}
 use Rattle.house.specs.Filled.{filled}
 use Rattle.house.specs.Held.{entry_at, spread_of}
 use Rattle.house.proofs.Fills.{filled_more, filled_done}
-use Rattle.house.proofs.Spread.{turn_few, past_next, turn_next}
+use Rattle.house.proofs.Spread.{past_next, turn_next}
 use Rattle.house.proofs.grid.spread.Goals as goal
 use Rattle.house.proofs.grid.spread.Goals.{then-past-columns, else-past-columns}
-
-pub loop-o-init : goal.loop-o-init
-loop-o-init c = let a = c.args in
-    let e : a.z + 1 - 0 ≡ a.z + 1 = omega arith in
-    (sym (N.zero-div a.columns), sym (N.zero-mod a.columns), rw e)
-
-pub entry_at-requires : goal.entry_at-requires
-entry_at-requires c = let few = turn_few c.loop-o.o c.args.columns c.requires.0 (omega arith) in
-    omega (arith, c.loop-o.invariant.0, few)
-
-pub overflow_add-past : goal.overflow_add-past
-overflow_add-past c = let r = N.mod-lt c.loop-o.o c.requires.0 in
-    let e = c.loop-o.invariant.1 in
-    search rules
-
-pub overflow_add-t : goal.overflow_add-t
-overflow_add-t c = let few = turn_few c.loop-o.o c.args.columns c.requires.0 (omega arith) in
-    let e = c.loop-o.invariant.0 in
-    search rules
 
 pub loop-o-preserved : goal.loop-o-preserved
 loop-o-preserved c = let a = c.args in

@@ -1,25 +1,12 @@
-use Rattle.std.proofs.Common.{◌+◌, ◌-◌, ◌<◌, get_or, set, ℤ, sym, ap, ◌∙◌, arith, lit<, length-set, rules}
+use Rattle.std.proofs.Common.{◌+◌, ◌-◌, ◌<◌, get_or, set, ℤ, sym, ap, ◌∙◌, arith, lit<, length-set}
 use lib.Ieee.{nan}
 use Rattle.whole.proofs.Fits.{gives, small_fits}
 use Rattle.jobs.specs.Words.{cells_of}
 use Rattle.house.specs.Filled.{filled}
 use Rattle.house.proofs.Fills.{filled_more, filled_done}
-use Rattle.house.proofs.Told.{cells_few}
 use Rattle.house.proofs.Boxed.{value_small}
 use Rattle.house.proofs.proposal.values_into.Invariants.{values}
 use Rattle.house.proofs.proposal.values_into.Goals as goal
-
-pub offset_bounds-v-i : goal.offset_bounds-v-i
-offset_bounds-v-i c = let few = cells_few c.requires.0 in search rules
-
-pub bounds-v-i : goal.bounds-v-i
-bounds-v-i c = let few = cells_few c.requires.0 in search rules
-
-pub value_at-requires : goal.value_at-requires
-value_at-requires c = (c.requires.0, omega (arith, c.requires.1))
-
-pub offset_bounds-made-i : goal.offset_bounds-made-i
-offset_bounds-made-i c = let few = cells_few c.requires.0 in search rules
 
 pub loop-i-preserved : goal.loop-i-preserved
 loop-i-preserved c = let ws = c.args.words.now in

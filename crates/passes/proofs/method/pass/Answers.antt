@@ -1,33 +1,16 @@
-use mathlib.Core.Path.{◌≡◌, sym, ap, ◌∙◌}
+use mathlib.Core.Path.{sym, ap, ◌∙◌}
 use Prim.Native.Nat.{◌+◌, ◌-◌}
 use native.Mathlib.Omega.{arith}
 use Rattle.jobs.specs.Words.{job_of}
 use Rattle.passes.specs.Hildreth.{State, link_of, pass_from}
 use Rattle.passes.specs.OnWords.{state}
 use Rattle.passes.proofs.Turns.{pass_more, pass_done}
-use Rattle.passes.proofs.Passing.{next_state, cells_most, links_most, at_link, next_starts}
+use Rattle.passes.proofs.Passing.{next_state, cells_most, at_link, next_starts}
 use Rattle.passes.proofs.method.pass.Goals as goal
-
-pub loop-i-init : goal.loop-i-init
-loop-i-init c = let a = c.args in
-    let e : a.links - 0 ≡ a.links = omega arith in
-    (c.first_link_of-s.ensures, rw e)
-
-pub offset_bounds-y-i : goal.offset_bounds-y-i
-offset_bounds-y-i c = omega (arith, links_most c.requires.0)
-
-pub bounds-y-i : goal.bounds-y-i
-bounds-y-i c = omega (arith, links_most c.requires.0)
 
 pub improve-new-requires : goal.improve-new-requires
 improve-new-requires c = let p = c.requires in
     (at_link p.0 (omega arith) c.loop-i.invariant.0, p.0.known.allowed.cells_few, cells_most p.0, p.1, p.2)
-
-pub offset_bounds-y-i-in-loop-i : goal.offset_bounds-y-i-in-loop-i
-offset_bounds-y-i-in-loop-i c = omega (arith, links_most c.requires.0)
-
-pub bounds-y-i-in-loop-i : goal.bounds-y-i-in-loop-i
-bounds-y-i-in-loop-i c = omega (arith, links_most c.requires.0)
 
 pub next_start-s-requires : goal.next_start-s-requires
 next_start-s-requires c = at_link c.requires.0 (omega arith) c.loop-i.invariant.0

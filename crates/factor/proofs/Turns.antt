@@ -144,9 +144,6 @@ length_row z entries d l j lo (suc n) i made =
     let x = multiplier_of z entries d l j lo i made in
     length_row z entries d l j lo n (i + 1) (set made (j - i - 1) x) ∙ length-set made (j - i - 1) x
 
-pub blank_length : (n : ℕ) {made : List Float} → made ≡ no_multipliers n → length made ≡ n
-blank_length n e = ap length e ∙ length-replicate n (fin false 0 (pos 0))
-
 -- ---- a step's answer, by the comparison with 1/1,024
 
 pub value_judged : (x : Float) → value_of (judged x) ≡ x

@@ -4,7 +4,6 @@ ghost use Rattle.packs.specs.Reading.{Hands};
 ghost use Rattle.packs.specs.Writing.{roomed, Leaves};
 ghost use Rattle.jobs.specs.Packs.{handed_out, read_job_into, write_job};
 
-use crate::copying::copy_words;
 use fields::Field;
 use refusals::Refusal;
 
@@ -19,7 +18,7 @@ fn hand_out(words: &[i64], k: usize, out: &mut [i64]) -> Result<usize, Refusal>
     if out.len() < k {
         return Err(Refusal::NoRoom(k));
     }
-    copy_words(words, k, out);
+    out[..k].copy_from_slice(&words[..k]);
     Ok(k)
 }
 

@@ -1,6 +1,5 @@
 // A list that went out, read back.
-ghost use Rattle.std.specs.Prelude.{◌≡◌, ◌≤◌, length, take};
-ghost use Rattle.std.proofs.lemmas.List.Edits.{sets};
+ghost use Rattle.std.specs.Prelude.{◌≤◌, length, take};
 ghost use Rattle.packs.specs.declared.Outcome.TheVariants.{Done};
 ghost use Rattle.exports.specs.Exports.{handed_rates, rates_of, Gives};
 
@@ -8,19 +7,7 @@ use lists::lines::MOST_LINES;
 use lists::reading::read_list;
 use packs::Outcome;
 
-// Copies the first n values, and touches no word after them.
-fn copy_values(values: &[u32], n: usize, out: &mut [u32])
-    requires { (n ≤ length values.now) × (n ≤ length out.old) }
-    ensures { out.new ≡ sets out.old 0 (take n values.now) }
-{
-    let mut i: usize = 0;
-    while i < n {
-        out[i] = values[i];
-        i += 1;
-    }
-}
-
-// The first n values for the lender, if there are any and there is room for them.
+// The first n values for the lender, if there are any and there is room for them. No word after them is touched.
 fn hand_out(values: &[u32], n: usize, out: &mut [u32]) -> Outcome
     requires { n ≤ length values.now }
     ensures { Gives (handed_rates (length out.old) (take n values.now) (Done n)) out.old result out.new }
@@ -31,7 +18,7 @@ fn hand_out(values: &[u32], n: usize, out: &mut [u32]) -> Outcome
     if out.len() < n {
         return Outcome::Refused(13, n);
     }
-    copy_values(values, n, out);
+    out[..n].copy_from_slice(&values[..n]);
     Outcome::Done(n)
 }
 

@@ -16,13 +16,8 @@ fn put_bytes(part: &[u8], at: usize, out: &mut [u8]) -> usize
     requires { Room part.now at out.old }
     ensures { Puts part.now out.old at result out.new }
 {
-    let mut next = at;
-    let mut i: usize = 0;
-    while i < part.len() {
-        out[next] = part[i];
-        next += 1;
-        i += 1;
-    }
+    let next = at + part.len();
+    out[at..next].copy_from_slice(part);
     next
 }
 
@@ -44,11 +39,9 @@ fn put_lines(rates: &[u32], first: u64, at: usize, out: &mut [u8]) -> usize
 {
     let mut next = at;
     let mut age = first;
-    let mut i: usize = 0;
-    while i < rates.len() {
-        next = put_line(age, rates[i] as u64, next, out);
+    for rate in rates {
+        next = put_line(age, u64::from(*rate), next, out);
         age += 1;
-        i += 1;
     }
     next
 }
@@ -67,13 +60,11 @@ fn lines_size(rates: &[u32], first: u64) -> usize
     requires { (first ≤ largest) × (length rates.now ≤ 120) }
     ensures { (result ≡ length (export_lines first rates.now)) × (result ≤ 5160) }
 {
-    let mut total: usize = 0;
+    let mut total = 0;
     let mut age = first;
-    let mut i: usize = 0;
-    while i < rates.len() {
-        total += line_size(age, rates[i] as u64);
+    for rate in rates {
+        total += line_size(age, u64::from(*rate));
         age += 1;
-        i += 1;
     }
     total
 }
@@ -82,14 +73,7 @@ fn lines_size(rates: &[u32], first: u64) -> usize
 fn all_upto(rates: &[u32]) -> bool
     ensures { result ≡ all_upto largest rates.now }
 {
-    let mut i: usize = 0;
-    while i < rates.len() {
-        if LARGEST < (rates[i] as u64) {
-            return false;
-        }
-        i += 1;
-    }
-    true
+    rates.iter().all(|rate| u64::from(*rate) <= LARGEST)
 }
 
 // Whether a table may go out.
@@ -97,21 +81,11 @@ fn is_exportable(rates: &[u32], first: u64) -> bool
     ensures { result ≡ exportable first rates.now }
 {
     let n = rates.len();
-    if n < 1 {
-        return false;
-    }
-    if MOST_LINES < n {
-        return false;
-    }
-    if LARGEST < first {
-        return false;
-    }
-    let later = (n - 1) as u64;
-    let last = first + later;
-    if LARGEST < last {
-        return false;
-    }
-    all_upto(rates)
+    n >= 1
+        && n <= MOST_LINES
+        && first <= LARGEST
+        && first + (n as u64 - 1) <= LARGEST
+        && all_upto(rates)
 }
 
 // Writes a table that may go out.

@@ -37,7 +37,7 @@ fn write_import(g: Given, n: usize, exposures: &[u32], deaths: &[u32], out: &mut
 {
     let mut words = [0i64; IMPORT_WORDS];
     let count = put_job(g, n, exposures, deaths, &mut words);
-    jobs::job::write_job(&words[0..count], out)
+    jobs::job::write_job(&words[..count], out)
 }
 
 // Writes the job pack that a claims list makes, or refuses and writes nothing.

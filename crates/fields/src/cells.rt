@@ -3,7 +3,8 @@ ghost use Rattle.std.specs.Prelude.{◌≡◌};
 ghost use Rattle.fields.specs.Table.{lacking, rows_wanted, next_row, weighed, after_ceiling};
 
 use crate::limits::{fewer, has_more};
-use crate::{Field, Step};
+use crate::{Barred, Field, Step};
+use refusals::Refusal;
 
 // The cell that a walk stands in: of how many; what a row is, 8 times its columns and its order across; what is wanted, 8 times the rows with enough
 // positive weights and the weights that the cell's own row lacks; and its column.
@@ -87,11 +88,11 @@ pub fn after_ceiling(c: Cells, lo: u64, x: u64) -> Step
     let want = c.want;
     let column = c.column;
     if x < lo {
-        return Step::Refused(3, cell);
+        return Err(Barred::Other(Refusal::FloorAbove(cell as usize)));
     }
     if has_more(cell, n) {
         let next = cell + 1;
-        return Step::Next(Field::Crude(Cells {
+        return Ok(Field::Crude(Cells {
             n,
             row,
             want,
@@ -100,7 +101,7 @@ pub fn after_ceiling(c: Cells, lo: u64, x: u64) -> Step
         }));
     }
     if 0 < want / 8 {
-        return Step::Refused(4, 0);
+        return Err(Barred::Other(Refusal::TooFewWeights));
     }
-    Step::Next(Field::LinkCount(n))
+    Ok(Field::LinkCount(n))
 }

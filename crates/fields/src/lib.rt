@@ -8,9 +8,8 @@ pub mod links;
 pub mod proposal;
 pub mod shape;
 
-ghost use Rattle.std.specs.Prelude.{◌≡◌, ◌-◌};
+ghost use Rattle.std.specs.Prelude.{◌≡◌, ◌-◌, Ok};
 ghost use Rattle.fields.specs.declared.Field.TheVariants.{Tolerance};
-ghost use Rattle.fields.specs.declared.Step.TheVariants.{Next};
 ghost use Rattle.fields.specs.Table.{within, within_signed, rule, after_coefficient, step_of, signed_at, end_at};
 
 use crate::cells::{Cells, after_ceiling, with_weight};
@@ -18,6 +17,7 @@ use crate::limits::{is_within, less};
 use crate::links::{Links, after_bound, after_cell, after_coefficient, first_link, with_terms};
 use crate::proposal::{after_multiplier, after_value};
 use crate::shape::{after_across, after_columns, after_down, after_order};
+use refusals::Refusal;
 
 // The field whose number comes next, with what the numbers before it fix.
 #[derive(Clone, Copy)]
@@ -47,13 +47,15 @@ pub enum Field {
     End,
 }
 
-// What a number does: another field follows, the number is not allowed, or another refusal with its number and place.
+// Why a number stops the walk: it is not allowed where it stands, or the table has another refusal for what it tells.
 #[derive(Clone, Copy)]
-pub enum Step {
-    Next(Field),
-    NotAllowed,
-    Refused(u64, u64),
+pub enum Barred {
+    Unallowed,
+    Other(Refusal),
 }
+
+// What a number does: another field follows, or it is barred.
+pub type Step = Result<Field, Barred>;
 
 fn ruled(allowed: bool, s: Step) -> Step
     ensures { result ≡ rule allowed s }
@@ -61,18 +63,18 @@ fn ruled(allowed: bool, s: Step) -> Step
     if allowed {
         return s;
     }
-    Step::NotAllowed
+    Err(Barred::Unallowed)
 }
 
 fn next_if(allowed: bool, f: Field) -> Step
-    ensures { result ≡ rule allowed (Next f) }
+    ensures { result ≡ rule allowed (Ok f) }
 {
-    ruled(allowed, Step::Next(f))
+    ruled(allowed, Ok(f))
 }
 
 // k, after a second constant.
 fn after_constant(c: Cells, second: u64, x: u64) -> Step
-    ensures { result ≡ rule (within 1 (1000 - second) x) (Next (Tolerance c)) }
+    ensures { result ≡ rule (within 1 (1000 - second) x) (Ok (Tolerance c)) }
 {
     next_if(
         is_within(1, less(limits::CONSTANT, second), x),
@@ -147,6 +149,6 @@ pub fn after(f: Field, x: u64) -> Step
         Field::Bound(l) => next_if(is_within(0, 2 * limits::BOUND, x), after_bound(l)),
         Field::Value(n, links) => next_if(is_within(0, limits::RATE, x), after_value(n, links)),
         Field::Multiplier(n) => next_if(is_within(0, limits::MULTIPLIER, x), after_multiplier(n)),
-        Field::End => Step::NotAllowed,
+        Field::End => Err(Barred::Unallowed),
     }
 }

@@ -3,7 +3,8 @@ ghost use Rattle.std.specs.Prelude.{◌≡◌, ◌+◌};
 ghost use Rattle.fields.specs.Table.{after_cell, after_coefficient, links_from, with_least, with_terms};
 
 use crate::limits::has_more;
-use crate::{Field, Step};
+use crate::{Barred, Field, Step};
+use refusals::Refusal;
 
 // The link that a walk stands in: of how many, over how many cells; the terms that are left of it, and the least cell that the next may name (0 after one that does
 // not rise).
@@ -72,11 +73,11 @@ pub fn after_cell(l: Links, x: u64) -> Step
     if x < n {
         if least <= x {
             let next = x + 1;
-            return Step::Next(Field::Coefficient(with_least(l, next)));
+            return Ok(Field::Coefficient(with_least(l, next)));
         }
-        return Step::Next(Field::Coefficient(with_least(l, 0)));
+        return Ok(Field::Coefficient(with_least(l, 0)));
     }
-    Step::NotAllowed
+    Err(Barred::Unallowed)
 }
 
 // A coefficient 0, or a cell that does not rise, is 5.
@@ -89,11 +90,11 @@ pub fn after_coefficient(l: Links, x: u64) -> Step
     let links = l.links;
     let least = l.least;
     if x == 0 {
-        return Step::Refused(5, link);
+        return Err(Barred::Other(Refusal::BadTerm(link as usize)));
     }
     if 0 < least {
         if 1 < terms {
-            return Step::Next(Field::Cell(Links {
+            return Ok(Field::Cell(Links {
                 n,
                 links,
                 link,
@@ -101,9 +102,9 @@ pub fn after_coefficient(l: Links, x: u64) -> Step
                 least,
             }));
         }
-        return Step::Next(Field::Bound(l));
+        return Ok(Field::Bound(l));
     }
-    Step::Refused(5, link)
+    Err(Barred::Other(Refusal::BadTerm(link as usize)))
 }
 
 pub fn after_bound(l: Links) -> Field

@@ -13,7 +13,7 @@ ghost use Rattle.fields.specs.declared.Field.TheVariants.{Tolerance};
 ghost use Rattle.fields.specs.Table.{within, within_signed, rule, after_coefficient, step_of, signed_at, end_at};
 
 use crate::cells::{Cells, after_ceiling, with_weight};
-use crate::limits::{is_within, less};
+use crate::limits::is_within;
 use crate::links::{Links, after_bound, after_cell, after_coefficient, first_link, with_terms};
 use crate::proposal::{after_multiplier, after_value};
 use crate::shape::{after_across, after_columns, after_down, after_order};
@@ -60,10 +60,7 @@ pub type Step = Result<Field, Barred>;
 fn ruled(allowed: bool, s: Step) -> Step
     ensures { result ≡ rule allowed s }
 {
-    if allowed {
-        return s;
-    }
-    Err(Barred::Unallowed)
+    if allowed { s } else { Err(Barred::Unallowed) }
 }
 
 fn next_if(allowed: bool, f: Field) -> Step
@@ -77,7 +74,7 @@ fn after_constant(c: Cells, second: u64, x: u64) -> Step
     ensures { result ≡ rule (within 1 (1000 - second) x) (Ok (Tolerance c)) }
 {
     next_if(
-        is_within(1, less(limits::CONSTANT, second), x),
+        is_within(1, limits::CONSTANT.saturating_sub(second), x),
         Field::Tolerance(c),
     )
 }
@@ -96,21 +93,14 @@ fn after_stored(l: Links, x: u64) -> Step
 pub fn is_signed(f: Field) -> bool
     ensures { result ≡ signed_at f }
 {
-    match f {
-        Field::Coefficient(_) => true,
-        Field::Bound(_) => true,
-        _ => false,
-    }
+    matches!(f, Field::Coefficient(_) | Field::Bound(_))
 }
 
 // Whether the pack is whole.
 pub fn is_end(f: Field) -> bool
     ensures { result ≡ end_at f }
 {
-    match f {
-        Field::End => true,
-        _ => false,
-    }
+    matches!(f, Field::End)
 }
 
 // What the number x does at a field.

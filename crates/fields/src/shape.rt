@@ -12,10 +12,7 @@ use crate::{Barred, Field, Step};
 fn is_order(length: u64, x: u64) -> bool
     ensures { result ≡ is_order length x }
 {
-    if is_within(1, crate::limits::ORDER, x) {
-        return x < length;
-    }
-    false
+    is_within(1, crate::limits::ORDER, x) && x < length
 }
 
 // Order field 5 announces a grid; any other order used has to be less than the count of cells.
@@ -46,16 +43,7 @@ pub fn after_order(n: u64, x: u64) -> Step
 fn are_columns(n: u64, rows: u64, x: u64) -> bool
     ensures { result ≡ are_columns n rows x }
 {
-    if x < 2 {
-        return false;
-    }
-    if crate::limits::CELLS < x {
-        return false;
-    }
-    if n / x < rows {
-        return false;
-    }
-    rows * x == n
+    is_within(2, crate::limits::CELLS, x) && rows <= n / x && rows * x == n
 }
 
 pub fn after_columns(n: u64, rows: u64, x: u64) -> Step

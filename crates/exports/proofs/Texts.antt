@@ -12,7 +12,8 @@ use lib.ListN.{length, get_or, take, drop, length-append, take-append-drop}
 use lib.Seq.{take-suc, drop-cons, length-take-le}
 use Rattle.std.specs.List.{list_all}
 use Rattle.std.specs.Prelude.{if◌then◌else◌}
-use Rattle.packs.specs.declared.Outcome.TheVariants.{Done, Refused}
+use Rattle.std.specs.Prelude.{Ok, Err}
+use Rattle.refusals.specs.declared.Refusal.TheVariants.{NotAllowed, NoRoom}
 use Rattle.packs.specs.Writing.{Written, refused, in_room, Leaves}
 use Rattle.decimals.specs.Decimal.{decimal}
 use Rattle.decimals.specs.Puts.{Puts, Room}
@@ -129,16 +130,16 @@ pub text_length : (first : ℕ) (rates : List ℕ) {n : ℕ} → n ≡ length (e
 text_length first rates e = omega (arith, e, length-append (rates_header ++ line_end) (export_lines first rates))
 
 pub no_room : (first : ℕ) (rates out : List ℕ) {n : ℕ} → n ≡ length (export_text first rates) → length out < n
-    → Leaves (in_room (length out) (export_text first rates) (Done (length (export_text first rates)))) out (Refused 13 n) out
+    → Leaves (in_room (length out) (export_text first rates) (Ok (length (export_text first rates)))) out (Err (NoRoom n)) out
 no_room first rates out e h = rw (← e, lt-ltb _ _ h) (refl, refl)
 
 pub room_for : (first : ℕ) (rates out : List ℕ) {n : ℕ} → n ≡ length (export_text first rates) → n ≤ length out → {after : List ℕ} {end : ℕ}
     → Puts (export_text first rates) out 0 end after
-    → Leaves (in_room (length out) (export_text first rates) (Done (length (export_text first rates)))) out (Done end) after
+    → Leaves (in_room (length out) (export_text first rates) (Ok (length (export_text first rates)))) out (Ok end) after
 room_for first rates out {n} e h {after} {end} P =
     let count : end ≡ length (export_text first rates) = P.next ∙ zero-add (length (export_text first rates)) in
     let fits : length (export_text first rates) ≤ length out = omega (arith, e) in
-    rw (le-ltb (length out) (length (export_text first rates)) fits) (ap Done count, P.stored)
+    rw (le-ltb (length out) (length (export_text first rates)) fits) (ap Ok count, P.stored)
 
 -- room for the header, and for the lines after it
 whole_room : (first : ℕ) (rates out : List ℕ) {n : ℕ} → n ≡ length (export_text first rates) → n ≤ length out → Room (export_text first rates) 0 out
@@ -182,10 +183,10 @@ pub text_short : (first : ℕ) (rates : List ℕ) → length rates ≤ 120 → l
 text_short first rates h = omega (arith, text_length first rates refl, lines_short first rates)
 
 -- the two ways in which an export ends: 2, or a text of that length
-pub export_cases : (P : Written → Type 0) (room first : ℕ) (rates : List ℕ) → P (refused 2 0)
-    → (length (export_text first rates) ≤ 5170 → P (in_room room (export_text first rates) (Done (length (export_text first rates))))) → P (export_of room first rates)
+pub export_cases : (P : Written → Type 0) (room first : ℕ) (rates : List ℕ) → P (refused (NotAllowed 0))
+    → (length (export_text first rates) ≤ 5170 → P (in_room room (export_text first rates) (Ok (length (export_text first rates))))) → P (export_of room first rates)
 export_cases P room first rates two made = go (exportable first rates) refl
   where
-    go : (t : Bool) → exportable first rates ≡ t → P (if t then in_room room (export_text first rates) (Done (length (export_text first rates))) else refused 2 0)
+    go : (t : Bool) → exportable first rates ≡ t → P (if t then in_room room (export_text first rates) (Ok (length (export_text first rates))) else refused (NotAllowed 0))
     go true e = made (text_short first rates (out_of first rates e).few)
     go false e = two

@@ -1,7 +1,6 @@
 // A table that goes out as a list.
 ghost use Rattle.std.specs.Prelude.{◌≡◌, ◌+◌, ◌≤◌, length};
 ghost use Rattle.packs.specs.Writing.{in_room, Leaves};
-ghost use Rattle.packs.specs.declared.Outcome.TheVariants.{Done};
 ghost use Rattle.decimals.specs.Whole.{largest};
 ghost use Rattle.decimals.specs.Puts.{Puts, Room};
 ghost use Rattle.exports.specs.Exports.{export_line, export_lines, export_text, all_upto, exportable, export_of};
@@ -9,7 +8,7 @@ ghost use Rattle.exports.specs.Exports.{export_line, export_lines, export_text, 
 use decimals::printing::put_number;
 use decimals::reading::LARGEST;
 use lists::lines::MOST_LINES;
-use packs::Outcome;
+use refusals::Refusal;
 
 // Puts bytes at `at`, and answers the offset after them.
 fn put_bytes(part: &[u8], at: usize, out: &mut [u8]) -> usize
@@ -89,25 +88,25 @@ fn is_exportable(rates: &[u32], first: u64) -> bool
 }
 
 // Writes a table that may go out.
-fn export_lines(rates: &[u32], first: u64, out: &mut [u8]) -> Outcome
+fn export_lines(rates: &[u32], first: u64, out: &mut [u8]) -> Result<usize, Refusal>
     requires { (first ≤ largest) × (length rates.now ≤ 120) }
-    ensures { Leaves (in_room (length out.old) (export_text first rates.now) (Done (length (export_text first rates.now)))) out.old result out.new }
+    ensures { Leaves (in_room (length out.old) (export_text first rates.now) (Ok (length (export_text first rates.now)))) out.old result out.new }
 {
     let size = 10 + lines_size(rates, first);
     if out.len() < size {
-        return Outcome::Refused(13, size);
+        return Err(Refusal::NoRoom(size));
     }
     let next = put_bytes(b"age,rate\r\n", 0, out);
     let end = put_lines(rates, first, next, out);
-    Outcome::Done(end)
+    Ok(end)
 }
 
 // Writes a table as a list from the age `first` on, or refuses and writes nothing.
-pub fn export(rates: &[u32], first: u64, out: &mut [u8]) -> Outcome
+pub fn export(rates: &[u32], first: u64, out: &mut [u8]) -> Result<usize, Refusal>
     ensures { Leaves (export_of (length out.old) first rates.now) out.old result out.new }
 {
-    if is_exportable(rates, first) {
-        return export_lines(rates, first, out);
+    if !is_exportable(rates, first) {
+        return Err(Refusal::NotAllowed(0));
     }
-    Outcome::Refused(2, 0)
+    export_lines(rates, first, out)
 }

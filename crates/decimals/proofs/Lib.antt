@@ -3,3 +3,4 @@ pub mod Digits
 pub mod Stores
 pub mod Wholes
 pub mod Back
+pub mod Copies

@@ -66,12 +66,12 @@ module _ (row : List ℕ) (len : length row ≡ societies) (e : test_row row ≡
 
 -- ---- the row was copied over the front, and then the spans were zeroed
 pub cleared_is : (row xs a zs : List ℕ) (n e : ℕ) → length row ≡ societies → length xs ≡ shelf_words → slots_of row ≤ all_slots → n ≡ slots_of row → e ≡ societies + slot_words * n
-    → a ≡ row ++ drop (length row) xs → zs ≡ replicate (length (mid_of societies (e - societies) a)) 0 → put_mid societies (e - societies) a zs ≡ cleared row xs
+    → a ≡ put_mid 0 societies xs row → zs ≡ replicate (length (mid_of societies (e - societies) a)) 0 → put_mid societies (e - societies) a zs ≡ cleared row xs
 unfolding cleared
 cleared_is row xs a zs n e len long few en ee ea ez =
     let k = slot_words * slots_of row in
     let rest = drop societies xs in
-    let front : a ≡ row ++ rest = ea ∙ ap (λ (m : ℕ). row ++ drop m xs) len in
+    let front : a ≡ row ++ rest = ea in
     let size : e - societies ≡ k = ap (λ (m : ℕ). m - societies) (ee ∙ ap (λ (m : ℕ). societies + slot_words * m) en) ∙ omega arith in
     let mid : length (mid_of societies k a) ≡ k =
     ap (λ (x : List ℕ). length (mid_of societies k x)) front ∙ ap length (mid_next row rest societies len k) ∙ length-take-le k rest (rw length-drop (omega arith)) in

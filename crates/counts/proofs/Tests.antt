@@ -8,9 +8,8 @@ use native.Mathlib.Omega.{arith}
 use lib.Dec.{eqb, leb, ltb}
 use lib.ListN.{length, drop, get_or}
 use lib.Seq.{length-take-le, take_all, get_or-take, drop-drop}
-use borrow.Author.Tests.{le-leb, lt-leb, leb-true, leb-false, lt-ltb, le-ltb, ltb-false, eq-eqb, ne_eqb, eqb-true}
-use Rattle.slots.specs.declared.Slot.{Slot}
-use Rattle.slots.specs.declared.Slot.TheVariants.{At, Nowhere}
+use borrow.Author.Tests.{le-leb, lt-leb, leb-true, leb-false, le-ltb, ltb-false, eq-eqb, ne_eqb, eqb-true}
+use Rattle.std.specs.Prelude.{Option, Some, None}
 use Rattle.slots.specs.Slots.{slot_words, lowest, pick, later, at_slot}
 use Rattle.slots.proofs.Lowest.{first_word}
 use Rattle.slots.proofs.Sizes.{at_inj, no_slot, found_below}
@@ -22,16 +21,12 @@ use Rattle.counts.specs.Counts.{societies, most_slots, all_slots, shelf_words, c
 use Rattle.counts.specs.Given.{Counts}
 use Rattle.counts.proofs.Below.{below_apart}
 
--- ---- a count, by the words of the row
+-- ---- a count
+pub wrong_alone : (x : ℕ) (xs : List ℕ) → is_wrong (x ∷ []) ≡ is_wrong (x ∷ xs)
+unfolding is_wrong
+wrong_alone x xs = refl
+
 module _ (row : List ℕ) (at : ℕ) where
-  pub wrong_none : get_or row at 0 < 1 → true ≡ is_wrong (drop at row)
-  unfolding is_wrong
-  wrong_none h = rw (first_word row at, lt-ltb (get_or row at 0) 1 h)
-
-  pub wrong_many : 1 ≤ get_or row at 0 → ltb most_slots (get_or row at 0) ≡ is_wrong (drop at row)
-  unfolding is_wrong
-  wrong_many h = rw (first_word row at, le-ltb (get_or row at 0) 1 h)
-
   -- a count that is not wrong is 1 to 16
   right_count : is_wrong (drop at row) ≡ false → (1 ≤ get_or row at 0) × (get_or row at 0 ≤ most_slots)
   unfolding is_wrong
@@ -63,39 +58,39 @@ module _ (test : List ℕ → Bool) where
   fails_next c s e k (suc p) h = later_word p s ∙ k p (omega arith)
 
   -- where none passes, each fails
-  none_passes : (c : ℕ) (s : List ℕ) → lowest test 1 c s ≡ Nowhere → Fails c s
+  none_passes : (c : ℕ) (s : List ℕ) → lowest test 1 c s ≡ None → Fails c s
   unfolding lowest
   none_passes zero s e = λ p h. absurd (omega arith)
   none_passes (suc c) s e = go (test s) refl (lowest test 1 c (drop 1 s)) refl e (none_passes c (drop 1 s))
     where
-      go : (b : Bool) → test s ≡ b → (o : Slot) → lowest test 1 c (drop 1 s) ≡ o → pick b (At 0) (later o) ≡ Nowhere → (lowest test 1 c (drop 1 s) ≡ Nowhere → Fails c (drop 1 s)) → Fails (suc c) s
+      go : (b : Bool) → test s ≡ b → (o : Option ℕ) → lowest test 1 c (drop 1 s) ≡ o → pick b (Some 0) (later o) ≡ None → (lowest test 1 c (drop 1 s) ≡ None → Fails c (drop 1 s)) → Fails (suc c) s
       go true q o r f others = absurd (no_slot 0 (sym f))
-      go false q (At n) r f others = absurd (no_slot (suc n) (sym f))
-      go false q Nowhere r f others = fails_next c s q (others r)
+      go false q (Some n) r f others = absurd (no_slot (suc n) (sym f))
+      go false q None r f others = fails_next c s q (others r)
 
   -- the one that is found passes, and each below it fails
   abbrev Passes : (p : ℕ) (s : List ℕ) → Type 0
   Passes p s = (test (drop p s) ≡ true) × Fails p s
 
-  found_passes : (c : ℕ) (s : List ℕ) (p : ℕ) → lowest test 1 c s ≡ At p → Passes p s
+  found_passes : (c : ℕ) (s : List ℕ) (p : ℕ) → lowest test 1 c s ≡ Some p → Passes p s
   unfolding lowest
   found_passes zero s p e = absurd (no_slot p e)
   found_passes (suc c) s p e = go (test s) refl (lowest test 1 c (drop 1 s)) refl e (found_passes c (drop 1 s))
     where
-      go : (b : Bool) → test s ≡ b → (o : Slot) → lowest test 1 c (drop 1 s) ≡ o → pick b (At 0) (later o) ≡ At p → ((n : ℕ) → lowest test 1 c (drop 1 s) ≡ At n → Passes n (drop 1 s)) → Passes p s
+      go : (b : Bool) → test s ≡ b → (o : Option ℕ) → lowest test 1 c (drop 1 s) ≡ o → pick b (Some 0) (later o) ≡ Some p → ((n : ℕ) → lowest test 1 c (drop 1 s) ≡ Some n → Passes n (drop 1 s)) → Passes p s
       go true q o r f others = subst (λ (n : ℕ). Passes n s) (at_inj 0 p f) (q, λ i h. absurd (omega arith))
-      go false q (At n) r f others = let k = others n r in subst (λ (m : ℕ). Passes m s) (at_inj (suc n) p f) (later_word n s ∙ k.0, fails_next n s q k.1)
-      go false q Nowhere r f others = absurd (no_slot p f)
+      go false q (Some n) r f others = let k = others n r in subst (λ (m : ℕ). Passes m s) (at_inj (suc n) p f) (later_word n s ∙ k.0, fails_next n s q k.1)
+      go false q None r f others = absurd (no_slot p f)
 
 -- ---- the cases of the test
 module _ (row : List ℕ) where
-  pub test_wrong : (s : ℕ) → lowest_wrong row ≡ At s → Wrong s ≡ test_row row
+  pub test_wrong : (s : ℕ) → lowest_wrong row ≡ Some s → Wrong s ≡ test_row row
   unfolding test_row
-  test_wrong s e = sym (ap {B = Row} (λ (o : Slot). at_slot o (λ society. Wrong society) (test_total row)) e)
+  test_wrong s e = sym (ap {B = Row} (λ (o : Option ℕ). at_slot o (λ society. Wrong society) (test_total row)) e)
 
-  pub test_others : lowest_wrong row ≡ Nowhere → test_total row ≡ test_row row
+  pub test_others : lowest_wrong row ≡ None → test_total row ≡ test_row row
   unfolding test_row
-  test_others e = sym (ap {B = Row} (λ (o : Slot). at_slot o (λ society. Wrong society) (test_total row)) e)
+  test_others e = sym (ap {B = Row} (λ (o : Option ℕ). at_slot o (λ society. Wrong society) (test_total row)) e)
 
   pub total_right : (n : ℕ) → n ≡ slots_of row → n ≤ all_slots → Right ≡ test_total row
   total_right n e h = sym (ap {B = Row} (λ (b : Bool). cond b Right (Wrong societies)) (le-leb (slots_of row) all_slots (subst (λ (m : ℕ). m ≤ all_slots) e h)))
@@ -117,11 +112,11 @@ pub row_inside : (row : List ℕ) → Allotted row → (s : ℕ) → s < societi
 row_inside row a s h = omega (arith, below_apart (count_in row) s societies h, a.total)
 
 -- every count is 1 to 16
-pub each_right : (row : List ℕ) → lowest_wrong row ≡ Nowhere → (s : ℕ) → s < societies → (1 ≤ count_in row s) × (count_in row s ≤ most_slots)
+pub each_right : (row : List ℕ) → lowest_wrong row ≡ None → (s : ℕ) → s < societies → (1 ≤ count_in row s) × (count_in row s ≤ most_slots)
 each_right row e s h = right_count row s (none_passes is_wrong societies row e s h)
 
 -- the lowest society whose count is not
-pub lowest_wrong_is : (row : List ℕ) (s : ℕ) → lowest_wrong row ≡ At s
+pub lowest_wrong_is : (row : List ℕ) (s : ℕ) → lowest_wrong row ≡ Some s
     → (s < societies) × ((1 ≤ count_in row s) × (count_in row s ≤ most_slots) → ⊥) × ((i : ℕ) → i < s → (1 ≤ count_in row i) × (count_in row i ≤ most_slots))
 lowest_wrong_is row s e =
     let f = found_passes is_wrong societies row s e in
@@ -131,20 +126,20 @@ pub right_allotted : (row : List ℕ) → test_row row ≡ Right → Allotted ro
 unfolding test_row
 right_allotted row e = go (lowest_wrong row) refl (leb (slots_of row) all_slots) refl e
   where
-    go : (o : Slot) → lowest_wrong row ≡ o → (b : Bool) → leb (slots_of row) all_slots ≡ b → at_slot o (λ society. Wrong society) (cond b Right (Wrong societies)) ≡ Right → Allotted row
-    go (At s) p b q f = never s f
-    go Nowhere p true q f = record { some = λ s h. (each_right row p s h).0; few = λ s h. (each_right row p s h).1; total = leb-true (slots_of row) all_slots q }
-    go Nowhere p false q f = never societies f
+    go : (o : Option ℕ) → lowest_wrong row ≡ o → (b : Bool) → leb (slots_of row) all_slots ≡ b → at_slot o (λ society. Wrong society) (cond b Right (Wrong societies)) ≡ Right → Allotted row
+    go (Some s) p b q f = never s f
+    go None p true q f = record { some = λ s h. (each_right row p s h).0; few = λ s h. (each_right row p s h).1; total = leb-true (slots_of row) all_slots q }
+    go None p false q f = never societies f
 
 -- a fault is at a society, or at 8
 pub wrong_place : (row : List ℕ) (place : ℕ) → test_row row ≡ Wrong place → place ≤ societies
 unfolding test_row
 wrong_place row place e = go (lowest_wrong row) refl (leb (slots_of row) all_slots) e
   where
-    go : (o : Slot) → lowest_wrong row ≡ o → (b : Bool) → at_slot o (λ society. Wrong society) (cond b Right (Wrong societies)) ≡ Wrong place → place ≤ societies
-    go (At s) p b f = let z : s ≡ place = cc in omega (arith, found_below is_wrong 1 societies row s p)
-    go Nowhere p true f = never place (sym f)
-    go Nowhere p false f = let z : societies ≡ place = cc in omega arith
+    go : (o : Option ℕ) → lowest_wrong row ≡ o → (b : Bool) → at_slot o (λ society. Wrong society) (cond b Right (Wrong societies)) ≡ Wrong place → place ≤ societies
+    go (Some s) p b f = let z : s ≡ place = cc in omega (arith, found_below is_wrong 1 societies row s p)
+    go None p true f = never place (sym f)
+    go None p false f = let z : societies ≡ place = cc in omega arith
 
 -- ---- a row has eight counts
 some_inside : (i : ℕ) (xs : List ℕ) → 1 ≤ get_or xs i 0 → i < length xs
@@ -162,7 +157,7 @@ right_eight counts e = go (leb societies (length counts)) refl (some_inside 7 (r
         absurd (omega (arith, ap length (take_all societies counts (omega arith))))
 
 -- ---- counts that may be added up
-pub counts_right : (row : List ℕ) → length row ≡ societies → lowest_wrong row ≡ Nowhere → Counts row societies
+pub counts_right : (row : List ℕ) → length row ≡ societies → lowest_wrong row ≡ None → Counts row societies
 counts_right row len e = record { inside = omega arith; few = omega arith; small = λ i k. (each_right row e i k).1 }
 
 pub counts_allotted : (row : List ℕ) → length row ≡ societies → Allotted row → (s : ℕ) → s ≤ societies → Counts row s

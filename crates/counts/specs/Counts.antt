@@ -1,7 +1,6 @@
 -- The leading row of a shelf (document 02, W-209): "The shelf gets a leading row of eight words, each society's count of places, 1 to 16, total at most
 -- 32; places follow in society order". What document 01 calls a place of the shelf is a slot here.
-use Rattle.std.specs.Prelude.{ℕ, zero, suc, ◌+◌, ◌*◌, ◌≡◌, Bool, cond, ◌||◌, List, ◌++◌, eqb, leb, ltb, length, take, drop, get_or, replicate}
-use Rattle.slots.specs.declared.Slot.{Slot}
+use Rattle.std.specs.Prelude.{ℕ, zero, suc, ◌+◌, ◌*◌, ◌≡◌, Bool, cond, ◌||◌, Option, List, ◌++◌, eqb, leb, ltb, length, take, drop, get_or, replicate}
 use Rattle.slots.specs.Slots.{slot_words, lowest, at_slot}
 use Rattle.counts.specs.declared.Row.{Row}
 use Rattle.counts.specs.declared.Row.TheVariants.{Right, Wrong}
@@ -36,7 +35,7 @@ unfoldable pub is_wrong : (x : List ℕ) → Bool
 is_wrong x = ltb (get_or x 0 0) 1 || ltb most_slots (get_or x 0 0)
 
 -- the lowest society whose count is wrong: a count is one word
-abbrev pub lowest_wrong : (row : List ℕ) → Slot
+abbrev pub lowest_wrong : (row : List ℕ) → Option ℕ
 lowest_wrong row = lowest is_wrong 1 societies row
 
 -- "22 counts not allowed, …, place the lowest wrong society, or 8 for the total"

@@ -1,7 +1,7 @@
 -- The search for a slot: the tests by the words of the span, and the first of the slots that passes one. For any test and any w.
 use mathlib.Core.Path.{◌≡◌, refl, sym, ap, ◌∙◌}
 use mathlib.Core.Bool.{Bool, true, false, cond, ◌&&◌}
-use mathlib.Core.List.{List}
+use mathlib.Core.List.{List, [], ◌∷◌}
 use Prim.Native.Nat.{ℕ, zero, suc, ◌+◌, ◌*◌}
 use native.Mathlib.Nat.{add-zero, mul-zero}
 use native.Mathlib.Omega.{arith}
@@ -16,7 +16,7 @@ use Rattle.slots.proofs.Sizes.{slot_end}
 
 -- ---- the tests, by the words of the span
 module _ (s : List ℕ) (at : ℕ) where
-  first_word : get_or (drop at s) 0 0 ≡ get_or s at 0
+  pub first_word : get_or (drop at s) 0 0 ≡ get_or s at 0
   first_word = get_or-drop at s 0 0 ∙ ap (λ (n : ℕ). get_or s n 0) (add-zero at)
 
   pub full_is : is_full (drop at s) ≡ (leb 2 (get_or s at 0) && leb (get_or s at 0) most_cells)
@@ -58,3 +58,17 @@ module _ (test : List ℕ → Bool) (w : ℕ) (s : List ℕ) where
   first_is c r e =
       e ∙ position_from-zero (λ (q : ℕ). test (drop (w * q) s)) (range_with_len 0 c) ∙ from c 0
       ∙ none_further (lowest test w c (drop (w * 0) s)) ∙ ap {B = Option ℕ} (λ (k : ℕ). lowest test w c (drop k s)) (mul-zero w)
+
+-- ---- over slots of one word: the first word that passes, where a test goes by the word alone
+module _ (test : List ℕ → Bool) (alone : (x : ℕ) (xs : List ℕ) → test (x ∷ []) ≡ test (x ∷ xs)) where
+  words : (xs : List ℕ) (p : ℕ) → position_from (λ (x : ℕ). test (x ∷ [])) p xs ≡ further p (lowest test 1 (length xs) xs)
+  unfolding lowest
+  words [] p = refl
+  words (x ∷ xs) p =
+      ap {B = Option ℕ} (λ (b : Bool). cond b (Some p) (position_from (λ (x : ℕ). test (x ∷ [])) (p + 1) xs)) (alone x xs)
+      ∙ ap {B = Option ℕ} (λ (o : Option ℕ). cond (test (x ∷ xs)) (Some p) o) (words xs (p + 1)) ∙ picked p (test (x ∷ xs)) (lowest test 1 (length xs) xs)
+
+  pub first_word_is : (xs : List ℕ) (r : Option ℕ)
+      → r ≡ cond (ltb (position_or_len (λ (x : ℕ). test (x ∷ [])) xs) (length xs)) (Some (position_or_len (λ (x : ℕ). test (x ∷ [])) xs)) None
+      → r ≡ lowest test 1 (length xs) xs
+  first_word_is xs r e = e ∙ position_from-zero (λ (x : ℕ). test (x ∷ [])) xs ∙ words xs 0 ∙ none_further (lowest test 1 (length xs) xs)

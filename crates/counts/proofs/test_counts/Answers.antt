@@ -7,7 +7,7 @@ use Rattle.counts.specs.Counts.{on_row}
 use Rattle.counts.proofs.test_counts.Goals as goal
 
 pub returns-in-Right : goal.returns-in-Right
-returns-in-Right c = sym (ap {B = Tested} (λ (o : Row). on_row o Passed (λ place. Refused 22 place)) (sym c.test_row-found.ensures ∙ c.in-Right.is))
+returns-in-Right c = sym (ap {B = Tested} (λ (o : Row). on_row o Passed (λ place. Refused 22 place)) (sym c.test_row.ensures ∙ c.in-Right.is))
 
 pub returns-in-Wrong : goal.returns-in-Wrong
-returns-in-Wrong c = sym (ap {B = Tested} (λ (o : Row). on_row o Passed (λ place. Refused 22 place)) (sym c.test_row-found.ensures ∙ c.in-Wrong.is))
+returns-in-Wrong c = sym (ap {B = Tested} (λ (o : Row). on_row o Passed (λ place. Refused 22 place)) (sym c.test_row.ensures ∙ c.in-Wrong.is))

@@ -5,48 +5,38 @@ ghost use Rattle.fields.specs.Table.{step_of};
 ghost use Rattle.packs.specs.Reading.{settled, Hands};
 ghost use Rattle.packs.specs.Walking.{in_groups, in_words, Small, next_of, left_of, kept_of, walk_move, walk_of};
 
-use crate::Outcome;
-use crate::words::{Raw, raw_of, word_of};
-use fields::{Field, Step};
+use crate::words::{raw_of, word_of};
+use fields::{Barred, Field};
 use numbers::plain::Number;
+use refusals::Refusal;
 
-// What comes next: a number with the offset after it, or nothing, with the number of the refusal for that.
+// A number taken: the field that follows, the word to be kept and the offset after it.
 #[derive(Clone, Copy)]
-pub enum Found {
-    Number(u64, usize),
-    Nothing(u64),
-}
-
-// What stands next in a walk: a word to be kept with the field and the offset after it, the end, or a refusal.
-#[derive(Clone, Copy)]
-pub enum Move {
-    Go(Field, i64, usize),
-    Stop,
-    Refuse(u64, usize),
+pub struct Taken {
+    pub field: Field,
+    pub word: i64,
+    pub next: usize,
 }
 
 // The first number that nine groups do not hold.
 const TOO_LARGE: u64 = 9223372036854775808;
 
 // The number of a word that stands at the offset `at`.
-fn in_groups(raw: Raw, at: usize) -> Found
+fn in_groups(raw: Option<u64>, at: usize) -> Result<Number, Refusal>
     requires { at + 10 < 2 ^ 64 }
     ensures { result ≡ in_groups at raw }
 {
-    match raw {
-        Raw::Number(x) => {
-            if x < TOO_LARGE {
-                let size = numbers::plain::size(x);
-                return Found::Number(x, at + size);
-            }
-            Found::Nothing(2)
-        }
-        Raw::Nothing => Found::Nothing(2),
+    let value = raw.ok_or(Refusal::NotAllowed(at))?;
+    if TOO_LARGE <= value {
+        return Err(Refusal::NotAllowed(at));
     }
+    let size = numbers::plain::size(value);
+    let next = at + size;
+    Ok(Number { value, next })
 }
 
 // The number of the word k at its field.
-fn in_words(words: &[i64], k: usize, at: usize, f: Field) -> Found
+fn in_words(words: &[i64], k: usize, at: usize, f: Field) -> Result<Number, Refusal>
     requires { at ≤ 10 * k }
     ensures { (result ≡ in_words words.now k at f) × Small result }
 {
@@ -54,22 +44,25 @@ fn in_words(words: &[i64], k: usize, at: usize, f: Field) -> Found
         let raw = raw_of(f, words[k]);
         return in_groups(raw, at);
     }
-    Found::Nothing(1)
+    Err(Refusal::Unreadable(at))
 }
 
 // The number that comes next.
-fn next_of(pack: &[u8], words: &[i64], writing: bool, k: usize, at: usize, f: Field) -> Found
+fn next_of(
+    pack: &[u8],
+    words: &[i64],
+    writing: bool,
+    k: usize,
+    at: usize,
+    f: Field,
+) -> Result<Number, Refusal>
     requires { writing ≡ true → at ≤ 10 * k }
     ensures { (result ≡ next_of writing pack.now words.now k at f) × Small result }
 {
     if writing {
         return in_words(words, k, at, f);
     }
-    let m = numbers::plain::number_at(pack, at);
-    match m {
-        Number::Value { value, next } => Found::Number(value, next),
-        Number::Unreadable => Found::Nothing(1),
-    }
+    numbers::plain::number_at(pack, at).ok_or(Refusal::Unreadable(at))
 }
 
 // Whether anything is left where the table ends.
@@ -93,34 +86,42 @@ fn kept_of(writing: bool, f: Field, x: u64) -> i64
     word_of(f, x)
 }
 
-// The number x, which stands at `at`, tested at its field.
-fn taken(writing: bool, f: Field, x: u64, at: usize, next: usize) -> Move
-    requires { x < 2 ^ 63 }
-    ensures { result ≡ settled (kept_of writing f x) at next (step_of f x) }
+// The number n, which stands at `at`, tested at its field.
+fn tested(writing: bool, f: Field, n: Number, at: usize) -> Result<Option<Taken>, Refusal>
+    requires { n.value < 2 ^ 63 }
+    ensures { result ≡ settled (kept_of writing f n.value) at n.next (step_of f n.value) }
 {
-    let s = fields::after(f, x);
-    match s {
-        Step::Next(g) => Move::Go(g, kept_of(writing, f, x), next),
-        Step::NotAllowed => Move::Refuse(2, at),
-        Step::Refused(number, place) => Move::Refuse(number, place as usize),
+    match fields::after(f, n.value) {
+        Ok(field) => {
+            let word = kept_of(writing, f, n.value);
+            let next = n.next;
+            Ok(Some(Taken { field, word, next }))
+        }
+        Err(Barred::Unallowed) => Err(Refusal::NotAllowed(at)),
+        Err(Barred::Other(r)) => Err(r),
     }
 }
 
-fn move_at(pack: &[u8], words: &[i64], writing: bool, k: usize, at: usize, f: Field) -> Move
+// What stands next in a walk: a number taken, or none where the table ends.
+fn move_at(
+    pack: &[u8],
+    words: &[i64],
+    writing: bool,
+    k: usize,
+    at: usize,
+    f: Field,
+) -> Result<Option<Taken>, Refusal>
     requires { writing ≡ true → at ≤ 10 * k }
     ensures { result ≡ walk_move writing pack.now words.now k at f }
 {
     if fields::is_end(f) {
         if has_left(pack, words, writing, k, at) {
-            return Move::Refuse(1, at);
+            return Err(Refusal::Unreadable(at));
         }
-        return Move::Stop;
+        return Ok(None);
     }
-    let found = next_of(pack, words, writing, k, at, f);
-    match found {
-        Found::Number(x, next) => taken(writing, f, x, at, next),
-        Found::Nothing(number) => Move::Refuse(number, at),
-    }
+    let n = next_of(pack, words, writing, k, at, f)?;
+    tested(writing, f, n, at)
 }
 
 // Sets the word at k, where there is one.
@@ -133,28 +134,24 @@ fn store(kept: &mut [i64], k: usize, word: i64)
 }
 
 // Walks from the field `first` on, over the bytes of a pack or, where `writing`, over words. What is kept of each number goes into `kept` as far as
-// there is room, also before a refusal: lend it room of your own.
-pub fn walk(pack: &[u8], words: &[i64], writing: bool, first: Field, kept: &mut [i64]) -> Outcome
+// there is room, also before a refusal: lend it room of your own. Answers the count of words.
+pub fn walk(
+    pack: &[u8],
+    words: &[i64],
+    writing: bool,
+    first: Field,
+    kept: &mut [i64],
+) -> Result<usize, Refusal>
     ensures { Hands (walk_of writing pack.now words.now first) kept.old result kept.new }
 {
     let mut field = first;
     let mut at: usize = 0;
     let mut k: usize = 0;
-    loop {
-        let m = move_at(pack, words, writing, k, at, field);
-        match m {
-            Move::Go(g, word, next) => {
-                store(kept, k, word);
-                k += 1;
-                at = next;
-                field = g;
-            }
-            Move::Stop => {
-                return Outcome::Done(k);
-            }
-            Move::Refuse(number, place) => {
-                return Outcome::Refused(number, place);
-            }
-        }
+    while let Some(t) = move_at(pack, words, writing, k, at, field)? {
+        store(kept, k, t.word);
+        k += 1;
+        at = t.next;
+        field = t.field;
     }
+    Ok(k)
 }

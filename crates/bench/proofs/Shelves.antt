@@ -13,8 +13,7 @@ use Rattle.jobs.proofs.Readings.{read_jobs_allowed}
 use Rattle.measure.specs.declared.check.Verdict.{Verdict}
 use Rattle.measure.specs.declared.check.Verdict.TheVariants.{Accepted, Refused}
 use Rattle.measure.specs.Check.{values_of, multipliers_of, verdict_for}
-use Rattle.slots.specs.declared.Slot.{Slot}
-use Rattle.slots.specs.declared.Slot.TheVariants.{At, Nowhere}
+use Rattle.std.specs.Prelude.{Option, Some, None}
 use Rattle.slots.specs.Slots.{head_size, values_end, lowest, has_job, at_slot}
 use Rattle.counts.specs.declared.Tested.{Tested}
 use Rattle.counts.specs.declared.Tested.TheVariants.{Passed, Refused as Barred}
@@ -70,12 +69,12 @@ in_small : (w c : ℕ) (j : Job) → Allowed j → (room : ℕ) (s : List ℕ) �
 unfolding fetch_in fetch_at
 in_small w c j A room s = go (lowest (has_job j.number) w c s)
   where
-    go : (o : Slot) → Small (at_slot o (λ p. fetch_at j room (drop (w * p) s)) (refusal 12 0)).answer
-    go (At p) =
+    go : (o : Option ℕ) → Small (at_slot o (λ p. fetch_at j room (drop (w * p) s)) (refusal 12 0)).answer
+    go (Some p) =
         let x = drop (w * p) s in
         table_small j A room (kept_cells x) (kept_links x) (kept_values x) (kept_multipliers x)
         (omega (arith, length-take (kept_cells x) (drop head_size x))) (omega (arith, length-take (kept_links x) (drop values_end x)))
-    go Nowhere = refusal_small 12 0 (omega arith) (omega arith)
+    go None = refusal_small 12 0 (omega arith) (omega arith)
 
 fetch_small : (l : Layout) (job : List ℕ) (room : ℕ) (shelf : List ℕ) → Small (fetch_reply l job room shelf).answer
 unfolding fetch_reply
@@ -89,9 +88,9 @@ forget_small : (w c job : ℕ) (s : List ℕ) → Small (forget_reply w c job s)
 unfolding forget_reply
 forget_small w c job s = go (lowest (has_job job) w c s)
   where
-    go : (o : Slot) → Small (at_slot o (λ p. done) (refusal 12 0)).answer
-    go (At p) = refusal_small 0 0 (omega arith) (omega arith)
-    go Nowhere = refusal_small 12 0 (omega arith) (omega arith)
+    go : (o : Option ℕ) → Small (at_slot o (λ p. done) (refusal 12 0)).answer
+    go (Some p) = refusal_small 0 0 (omega arith) (omega arith)
+    go None = refusal_small 12 0 (omega arith) (omega arith)
 
 society_small : (l : Layout) (society : ℕ) (f : List ℕ → Reply) (shelf : List ℕ) → ((x : List ℕ) → Small (f x).answer) → Small (from_society l society f shelf).answer
 unfolding from_society

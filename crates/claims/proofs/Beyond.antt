@@ -25,8 +25,7 @@ use Rattle.measure.specs.declared.check.Verdict.{Verdict}
 use Rattle.measure.specs.declared.check.Verdict.TheVariants.{Accepted, Refused as Denied}
 use Rattle.factor.specs.Factor.{Ending}
 use Rattle.house.specs.Proposal.{words_of, on_ending, solved_of, proposed_of, on_job_read, propose_of}
-use Rattle.slots.specs.declared.Slot.{Slot}
-use Rattle.slots.specs.declared.Slot.TheVariants.{At, Nowhere}
+use Rattle.std.specs.Prelude.{Option, Some, None}
 use Rattle.slots.specs.Slots.{lowest, has_job, at_slot}
 use Rattle.checked.specs.Answers.{Reply, refusal, overwritten}
 use Rattle.shelf.specs.Fetched.{kept_verdict, handed as handedTo, same_counts, fetch_table, kept_cells, kept_links, kept_values, kept_multipliers, fetch_at, fetch_in, on_job}
@@ -139,9 +138,9 @@ in_handed : (w c : ℕ) (j : Job) (room : ℕ) (s : List ℕ) → Handed (fetch_
 unfolding fetch_in fetch_at
 in_handed w c j room s = go (lowest (has_job j.number) w c s)
   where
-    go : (o : Slot) → Handed (at_slot o (λ p. fetch_at j room (drop (w * p) s)) (refusal 12 0))
-    go (At p) = let x = drop (w * p) s in table_handed j room (kept_cells x) (kept_links x) (kept_values x) (kept_multipliers x)
-    go Nowhere = omega arith
+    go : (o : Option ℕ) → Handed (at_slot o (λ p. fetch_at j room (drop (w * p) s)) (refusal 12 0))
+    go (Some p) = let x = drop (w * p) s in table_handed j room (kept_cells x) (kept_links x) (kept_values x) (kept_multipliers x)
+    go None = omega arith
 
 from_handed : (l : Layout) (job : List ℕ) (room : ℕ) (shelf : List ℕ) → Handed (fetch_reply l job room shelf)
 unfolding fetch_reply

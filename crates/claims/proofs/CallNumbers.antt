@@ -32,8 +32,7 @@ use Rattle.house.specs.Proposal.{words_of, on_ending, solved_of, proposed_of, on
 use Rattle.house.proofs.Writable.{house_writes}
 use Rattle.checked.specs.Answers.{Reply, refusal, done, answer_of}
 use Rattle.checked.specs.Checked.{checked_of}
-use Rattle.slots.specs.declared.Slot.{Slot}
-use Rattle.slots.specs.declared.Slot.TheVariants.{At, Nowhere}
+use Rattle.std.specs.Prelude.{Option, Some, None}
 use Rattle.slots.specs.Slots.{head_size, values_end, lowest, has_job, at_slot}
 use Rattle.counts.specs.declared.Tested.{Tested}
 use Rattle.counts.specs.declared.Tested.TheVariants.{Passed, Refused as Barred}
@@ -174,9 +173,9 @@ fetch_in_number : (w c : ℕ) (j : Job) (room : ℕ) (s : List ℕ) → Presente
 unfolding fetch_in fetch_at
 fetch_in_number w c j room s = go (lowest (has_job j.number) w c s)
   where
-    go : (o : Slot) → Presented (at_slot o (λ p. fetch_at j room (drop (w * p) s)) (refusal 12 0))
-    go (At p) = let x = drop (w * p) s in table_number j room (kept_cells x) (kept_links x) (kept_values x) (kept_multipliers x)
-    go Nowhere = inl refl
+    go : (o : Option ℕ) → Presented (at_slot o (λ p. fetch_at j room (drop (w * p) s)) (refusal 12 0))
+    go (Some p) = let x = drop (w * p) s in table_number j room (kept_cells x) (kept_links x) (kept_values x) (kept_multipliers x)
+    go None = inl refl
 
 fetch_from_number : (l : Layout) (job : List ℕ) (room : ℕ) (shelf : List ℕ) → Presented (fetch_reply l job room shelf)
 unfolding fetch_reply
@@ -190,9 +189,9 @@ forget_in_number : (w c job : ℕ) (s : List ℕ) → Held (forget_reply w c job
 unfolding forget_reply
 forget_in_number w c job s = go (lowest (has_job job) w c s)
   where
-    go : (o : Slot) → Held (at_slot o (λ p. done) (refusal 12 0))
-    go (At p) = held_done
-    go Nowhere = inr (inl refl)
+    go : (o : Option ℕ) → Held (at_slot o (λ p. done) (refusal 12 0))
+    go (Some p) = held_done
+    go None = inr (inl refl)
 
 society_number : (l : Layout) (society : ℕ) (f : List ℕ → Reply) (shelf : List ℕ) → ((x : List ℕ) → Held (f x)) → Held (from_society l society f shelf)
 unfolding from_society

@@ -1,18 +1,15 @@
 -- The promises of the counts, each a law whose type is its statement in specs/CountsPromises.antt.
 use Prim.Native.Nat.{ℕ, zero, suc, ◌+◌, ◌*◌, ◌≤◌}
 use mathlib.Core.Path.{◌≡◌, refl, sym, ap, ◌∙◌}
-use mathlib.Core.Bool.{Bool, true, false, cond}
+use mathlib.Core.Bool.{Bool, true, false}
 use mathlib.Core.List.{List}
 use native.Mathlib.Omega.{arith}
-use lib.Dec.{leb, ltb}
-use borrow.Author.Tests.{leb-false, ltb-true, ltb-false}
-use Rattle.slots.specs.declared.Slot.{Slot}
-use Rattle.slots.specs.declared.Slot.TheVariants.{At, Nowhere}
-use Rattle.slots.specs.Slots.{lowest, at_slot}
+use lib.Dec.{ltb}
+use borrow.Author.Tests.{ltb-true, ltb-false}
+use Rattle.slots.specs.Slots.{lowest}
 use Rattle.counts.specs.declared.Row.{Row}
 use Rattle.counts.specs.declared.Row.TheVariants.{Right, Wrong}
-use Rattle.counts.specs.Counts.{societies, all_slots, count_in, slots_below, slots_of, is_wrong, lowest_wrong, test_row, start_in}
-use Rattle.counts.proofs.Tests.{each_right, lowest_wrong_is, right_allotted}
+use Rattle.counts.specs.Counts.{count_in, slots_below, is_wrong, test_row, start_in}
 use Rattle.claims.proofs.Counted.{allowed_of, wrong_of, not_both}
 use Rattle.claims.specs.Verdicts.{LowestNot}
 use Rattle.claims.specs.CountsPromises.{CountsAllowed, CountsWrong, a_count, the_total, RightExactly, WrongExactly, fours, FourEach, TenTenTwo}

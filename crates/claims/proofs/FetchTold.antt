@@ -1,6 +1,6 @@
 -- A fetch that is done, from any words: none of the kept numbers was refused, so they are those of a proposal pack, and the verdict on them is that of
 -- the check on this pack and the job presented.
-use Prim.Native.Nat.{ℕ, ◌+◌, ◌-◌, ◌*◌, ◌≤◌, ◌<◌}
+use Prim.Native.Nat.{ℕ, ◌+◌, ◌*◌, ◌≤◌, ◌<◌}
 use mathlib.Core.Path.{◌≡◌, refl, sym, ap, ap₂, ◌∙◌, subst}
 use mathlib.Core.Bool.{Bool, true, false, cond}
 use mathlib.Core.List.{List, [], ◌∷◌, ◌++◌}
@@ -23,8 +23,7 @@ use Rattle.jobs.proofs.Trips.{proposed_read_back}
 use Rattle.measure.specs.declared.check.Verdict.{Verdict}
 use Rattle.measure.specs.declared.check.Verdict.TheVariants.{Accepted, Refused}
 use Rattle.measure.specs.Check.{on_read, proposal_verdict, check_of, verdict_for}
-use Rattle.slots.specs.declared.Slot.{Slot}
-use Rattle.slots.specs.declared.Slot.TheVariants.{At, Nowhere}
+use Rattle.std.specs.Prelude.{Option, Some, None}
 use Rattle.slots.specs.Slots.{head_size, values_end, slot_words, lowest, has_job, at_slot}
 use Rattle.checked.specs.Answers.{Reply, refusal, overwritten, answer_of}
 use Rattle.shelf.specs.Fetched.{most_value, most_multiplier, up_to, lowest_above, or_six, proposal_of, kept_verdict, handed, same_counts, fetch_table, kept_cells, kept_links, kept_values, kept_multipliers, fetch_at, fetch_in, on_job}
@@ -168,11 +167,11 @@ module _ (job : List ℕ) (k : ℕ) (reads : (read_job job).outcome ≡ Done k) 
   unfolding fetch_in
   span_behind w c s wide len n = go (lowest (has_job its_job.number) w c s) refl n
     where
-      go : (o : Slot) → lowest (has_job its_job.number) w c s ≡ o → Behind job (at_slot o (λ p. fetch_at its_job room (drop (w * p) s)) (refusal 12 0))
-      go (At p) e m =
+      go : (o : Option ℕ) → lowest (has_job its_job.number) w c s ≡ o → Behind job (at_slot o (λ p. fetch_at its_job room (drop (w * p) s)) (refusal 12 0))
+      go (Some p) e m =
           let h = slot_within w c p (found_below (has_job its_job.number) w c s p e) in
           slot_behind (drop (w * p) s) (rw length-drop (omega (arith, slot_end w p))) m
-      go Nowhere e m = absurd (omega (arith, m))
+      go None e m = absurd (omega (arith, m))
 
 -- ---- a whole shelf, and any words
 whole_behind : (l : Layout) → Lawful l → (job : List ℕ) (room : ℕ) (shelf : List ℕ) → length shelf ≡ l.total → Behind job (fetch_reply l job room shelf)

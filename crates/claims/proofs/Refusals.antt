@@ -14,8 +14,7 @@ use Rattle.jobs.specs.Words.{job_of}
 use Rattle.jobs.specs.Packs.{read_job}
 use Rattle.measure.specs.declared.check.Verdict.{Verdict}
 use Rattle.measure.specs.declared.check.Verdict.TheVariants.{Accepted, Refused as Refuses}
-use Rattle.slots.specs.declared.Slot.{Slot}
-use Rattle.slots.specs.declared.Slot.TheVariants.{At, Nowhere}
+use Rattle.std.specs.Prelude.{Option, Some, None}
 use Rattle.slots.specs.Slots.{lowest, has_job, at_slot, dropped_slot, forgot_in}
 use Rattle.checked.specs.Answers.{Reply, refusal, done, accepted, answer_of}
 use Rattle.shelf.specs.Shelf.{forget_reply, Layout, size_of, slot_from, span_of, on_part, on_society, from_society, kept_on, kept_shelf, keep_reply, fetch_from, fetch_reply, forgot_shelf, forgot_reply}
@@ -55,9 +54,9 @@ fetch_nothing : (w c : ℕ) (j : Job) (room : ℕ) (s : List ℕ) → Refused (f
 unfolding fetch_in fetch_at
 fetch_nothing w c j room s n = go (lowest (has_job j.number) w c s) n
   where
-    go : (o : Slot) → Refused (at_slot o (λ p. fetch_at j room (drop (w * p) s)) (refusal 12 0)) → GivesNothing (at_slot o (λ p. fetch_at j room (drop (w * p) s)) (refusal 12 0))
-    go (At p) m = let x = drop (w * p) s in table_nothing j room (kept_cells x) (kept_links x) (kept_values x) (kept_multipliers x) m
-    go Nowhere m = (refl, refl, refl)
+    go : (o : Option ℕ) → Refused (at_slot o (λ p. fetch_at j room (drop (w * p) s)) (refusal 12 0)) → GivesNothing (at_slot o (λ p. fetch_at j room (drop (w * p) s)) (refusal 12 0))
+    go (Some p) m = let x = drop (w * p) s in table_nothing j room (kept_cells x) (kept_links x) (kept_values x) (kept_multipliers x) m
+    go None m = (refl, refl, refl)
 
 unread_nothing : (o : Outcome) (r : Reply) → (Refused r → GivesNothing r) → Refused (on_job o r) → GivesNothing (on_job o r)
 unread_nothing (Done k) r h n = h n
@@ -68,17 +67,17 @@ module _ (w c job : ℕ) (s : List ℕ) where
   unfolding forget_reply forgot_in
   forget_nothing n = go (lowest (has_job job) w c s) n
     where
-      go : (o : Slot) → Refused (at_slot o (λ p. done) (refusal 12 0)) → at_slot o (λ p. dropped_slot w p s) s ≡ s
-      go (At p) m = absurd (m refl)
-      go Nowhere m = refl
+      go : (o : Option ℕ) → Refused (at_slot o (λ p. done) (refusal 12 0)) → at_slot o (λ p. dropped_slot w p s) s ≡ s
+      go (Some p) m = absurd (m refl)
+      go None m = refl
 
   forget_empty : GivesNothing (forget_reply w c job s)
   unfolding forget_reply
   forget_empty = go (lowest (has_job job) w c s)
     where
-      go : (o : Slot) → GivesNothing (at_slot o (λ p. done) (refusal 12 0))
-      go (At p) = (refl, refl, refl)
-      go Nowhere = (refl, refl, refl)
+      go : (o : Option ℕ) → GivesNothing (at_slot o (λ p. done) (refusal 12 0))
+      go (Some p) = (refl, refl, refl)
+      go None = (refl, refl, refl)
 
 -- ---- the calls on a shelf that has all its words
 module _ (l : Layout) (xs : List ℕ) where

@@ -7,8 +7,7 @@ use mathlib.Core.List.{List, [], ◌∷◌}
 use lib.Dec.{leb}
 use lib.ListN.{length}
 use Rattle.std.specs.Prelude.{if◌then◌else◌}
-use Rattle.slots.specs.declared.Slot.{Slot}
-use Rattle.slots.specs.declared.Slot.TheVariants.{At, Nowhere}
+use Rattle.std.specs.Prelude.{Option, Some, None}
 use Rattle.slots.specs.Slots.{lowest, has_job, at_slot}
 use Rattle.checked.specs.Answers.{Reply, refusal, done, overwritten}
 use Rattle.counts.specs.declared.Row.{Row}
@@ -44,14 +43,14 @@ forget_none : (l : Layout) (society job : ℕ) (shelf : List ℕ) → NoValues (
 unfolding forgot_reply from_society forget_reply
 forget_none l society job shelf = go (leb society 7)
   where
-    by : Slot → Reply
+    by : Option ℕ → Reply
     by o = at_slot o (λ p. done) (refusal 12 0)
 
-    each : (o : Slot) → NoValues (by o)
-    each (At p) = refl
-    each Nowhere = refl
+    each : (o : Option ℕ) → NoValues (by o)
+    each (Some p) = refl
+    each None = refl
 
-    found : Slot
+    found : Option ℕ
     found = lowest (has_job job) l.words (l.count society) (span_of l society shelf)
 
     go : (b : Bool) → NoValues (cond b (by found) (refusal 11 0))

@@ -1,5 +1,5 @@
 -- What an accepted check tells: F is at least 0 and at most 7.6·10^18, G is not negative, so the words of the answer are F and G themselves.
-use Prim.Native.Nat.{ℕ, ◌≤◌}
+use Prim.Native.Nat.{ℕ}
 use mathlib.Core.Path.{◌≡◌, sym, ap₂, ◌∙◌, refl, subst}
 use mathlib.Core.Bool.{Bool, true, false, cond, true≢false}
 use mathlib.Core.List.{List, [], ◌∷◌}

@@ -19,12 +19,8 @@ fn copy_rates(rates: &[i64], a: usize, n: usize, values: &mut [u32])
     requires { Wordlike a n rates.now × (n ≤ length values.old) }
     ensures { values.new ≡ taken_from a n rates.now ++ drop n values.old }
 {
-    let mut i: usize = 0;
-    while i < n {
-        let at = a + i;
-        let rate = count_at(rates, at);
-        values[i] = rate as u32;
-        i += 1;
+    for i in 0..n {
+        values[i] = count_at(rates, a + i) as u32;
     }
 }
 
@@ -86,8 +82,7 @@ pub fn keep_checked(shelf: &mut [u32], job: &[u8], proposal: &[u8]) -> Answer
 {
     let mut words = [0i64; JOB_WORDS];
     let mut rates = [0i64; PROPOSAL_WORDS];
-    let verdict = check_into(job, proposal, &mut words, &mut rates);
-    match verdict {
+    match check_into(job, proposal, &mut words, &mut rates) {
         Verdict::Accepted { loss, gap } => keep_table(shelf, &words, &rates, loss, gap),
         Verdict::Refused { number, place } => plain(number, place as u64),
     }

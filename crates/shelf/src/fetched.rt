@@ -16,7 +16,7 @@ use jobs::job::JOB_WORDS;
 use jobs::words;
 use packs::Outcome;
 use slots::search::find_job;
-use slots::{HEAD, SLOT_WORDS, Slot, VALUES_END};
+use slots::{HEAD, SLOT_WORDS, VALUES_END};
 
 // The table of the slot that begins at the word `at`, for a job's words.
 fn fetch_at(span: &[u32], at: usize, words: &[i64], out: &mut [u32]) -> Answer
@@ -46,14 +46,10 @@ fn fetch_in(span: &[u32], count: usize, words: &[i64], out: &mut [u32]) -> Answe
     ensures output { out.new ≡ overwritten out.old (fetch_in slot_words count (job_of words.now) (length out.old) span.now).values }
 {
     let number = count_at(words, 1);
-    let found = find_job(span, count, number as u32);
-    match found {
-        Slot::At(p) => {
-            let at = SLOT_WORDS * p;
-            fetch_at(span, at, words, out)
-        }
-        Slot::Nowhere => plain(12, 0),
-    }
+    let Some(p) = find_job(span, count, number as u32) else {
+        return plain(12, 0);
+    };
+    fetch_at(span, SLOT_WORDS * p, words, out)
 }
 
 // The same, from the span of the society that the job names.
@@ -75,7 +71,7 @@ fn fetch_part(shelf: &[u32], words: &[i64], k: usize, out: &mut [u32]) -> Answer
     ensures answer { result ≡ (fetch_from (layout_in shelf.now) (job_of (take k words.now)) (length out.old) shelf.now).answer }
     ensures output { out.new ≡ overwritten out.old (fetch_from (layout_in shelf.now) (job_of (take k words.now)) (length out.old) shelf.now).values }
 {
-    fetch_society(shelf, &words[0..k], out)
+    fetch_society(shelf, &words[..k], out)
 }
 
 // The table that is kept under a job pack's number, where it is accepted for that job.
@@ -85,8 +81,7 @@ pub fn fetch_pack(shelf: &[u32], job: &[u8], out: &mut [u32]) -> Answer
     ensures output { out.new ≡ overwritten out.old (fetch_reply (layout_in shelf.now) job.now (length out.old) shelf.now).values }
 {
     let mut words = [0i64; JOB_WORDS];
-    let read = packs::reading::read(job, Field::Society, &mut words);
-    match read {
+    match packs::reading::read(job, Field::Society, &mut words) {
         Outcome::Done(k) => fetch_part(shelf, &words, k, out),
         Outcome::Refused(number, place) => plain(number, place as u64),
     }

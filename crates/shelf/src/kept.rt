@@ -11,29 +11,17 @@ use checked::{Answer, plain};
 use fields::limits::{MULTIPLIER, RATE};
 use jobs::proposal::PROPOSAL_WORDS;
 use measure::check::{Verdict, check_first};
-use numbers::zigzag::{plus, size_of};
-use slots::words::copy_words;
+use numbers::zigzag::size_of;
 use slots::{HEAD, VALUES_END};
 
 // The lowest of the numbers that is above `most`, or their count.
 fn lowest_above(numbers: &[u32], most: u64) -> usize
     ensures { result ≡ lowest_above most numbers.now }
 {
-    let mut i: usize = 0;
-    while i < numbers.len() {
-        if (numbers[i] as u64) <= most {
-            i += 1;
-        } else {
-            return i;
-        }
-    }
-    i
-}
-
-fn signed(x: u32) -> i64
-    ensures { result ≡ pos x }
-{
-    plus(x as u64)
+    numbers
+        .iter()
+        .position(|x| u64::from(*x) > most)
+        .unwrap_or(numbers.len())
 }
 
 // The numbers over the front of a proposal's words.
@@ -41,10 +29,8 @@ fn copy_signed(words: &mut [i64], numbers: &[u32])
     requires { length numbers.now ≤ length words.old }
     ensures { words.new ≡ map pos numbers.now ++ drop (length numbers.now) words.old }
 {
-    let mut i: usize = 0;
-    while i < numbers.len() {
-        words[i] = signed(numbers[i]);
-        i += 1;
+    for (i, number) in numbers.iter().enumerate() {
+        words[i] = i64::from(*number);
     }
 }
 
@@ -54,9 +40,8 @@ fn put_proposal(words: &mut [i64], values: &[u32], multipliers: &[u32])
     ensures { words.new ≡ proposal_of values.now multipliers.now ++ drop (length values.now + length multipliers.now) words.old }
 {
     let n = values.len();
-    let e = words.len();
     copy_signed(words, values);
-    copy_signed(&mut words[n..e], multipliers);
+    copy_signed(&mut words[n..], multipliers);
 }
 
 // The check's verdict on kept numbers that are allowed.
@@ -103,7 +88,7 @@ fn hand_out(values: &[u32], loss: i64, gap: i64, out: &mut [u32]) -> Answer
     }
     let f = size_of(loss);
     let g = size_of(gap);
-    copy_words(out, values);
+    out[..n].copy_from_slice(values);
     Answer {
         number: 0,
         place: n as u64,
@@ -118,8 +103,7 @@ pub fn fetch_kept(words: &[i64], values: &[u32], multipliers: &[u32], out: &mut 
     ensures answer { result ≡ (handed (length out.old) values.now (kept_verdict (job_of words.now) values.now multipliers.now)).answer }
     ensures output { out.new ≡ overwritten out.old (handed (length out.old) values.now (kept_verdict (job_of words.now) values.now multipliers.now)).values }
 {
-    let verdict = kept_verdict(words, values, multipliers);
-    match verdict {
+    match kept_verdict(words, values, multipliers) {
         Verdict::Accepted { loss, gap } => hand_out(values, loss, gap, out),
         Verdict::Refused { number, place } => plain(number, place as u64),
     }

@@ -18,7 +18,7 @@ pub clear_spans-requires : goal.clear_spans-requires
 clear_spans-requires c = let a = c.args in
     let counts = a.counts.now in
     let eight : length counts ≡ societies = search rules in
-    let both = passed_both (row_in counts) a.shelf.now (sym c.test_clearing-tested.ensures ∙ c.in-Passed.is) in
+    let both = passed_both (row_in counts) a.shelf.now (sym c.test_clearing.ensures ∙ c.in-Passed.is) in
     (both.0, eight, ap {B = Row} test_row (sym (take_all societies counts (omega arith))) ∙ both.1)
 
 pub returns-in-Passed : goal.returns-in-Passed
@@ -26,10 +26,10 @@ returns-in-Passed c = let a = c.args in
     let shelf = a.shelf.now in
     let counts = a.counts.now in
     let eight : length counts ≡ societies = search rules in
-    let both = clear_passed shelf counts (sym c.test_clearing-tested.ensures ∙ c.in-Passed.is) in
+    let both = clear_passed shelf counts (sym c.test_clearing.ensures ∙ c.in-Passed.is) in
     record { answer = c.plain.ensures ∙ ap {B = Answer} (λ (r : Reply). r.answer) both.0; shelf = c.clear_spans.ensures ∙ ap (λ (x : List ℕ). cleared x shelf) (sym (take_all societies counts (omega arith))) ∙ both.1 }
 
 pub returns-in-Refused : goal.returns-in-Refused
 returns-in-Refused c = let a = c.args in
-    let both = clear_refused a.shelf.now a.counts.now c.in-Refused.number c.in-Refused.place (sym c.test_clearing-tested.ensures ∙ c.in-Refused.is) in
+    let both = clear_refused a.shelf.now a.counts.now c.in-Refused.number c.in-Refused.place (sym c.test_clearing.ensures ∙ c.in-Refused.is) in
     record { answer = c.plain-in-Refused.ensures ∙ ap {B = Answer} (λ (r : Reply). r.answer) both.0; shelf = both.1 }

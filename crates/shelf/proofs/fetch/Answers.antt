@@ -10,7 +10,7 @@ use Rattle.shelf.proofs.Answered.{said_passed, said_refused}
 use Rattle.shelf.proofs.fetch.Goals as goal
 
 pub fetch_pack-requires : goal.fetch_pack-requires
-fetch_pack-requires c = passed_ready _ (sym c.test_shelf-tested.ensures ∙ c.in-Passed.is)
+fetch_pack-requires c = passed_ready _ (sym c.test_shelf.ensures ∙ c.in-Passed.is)
 
 pub returns-in-Passed : goal.returns-in-Passed
 returns-in-Passed c = let got = c.fetch_pack in
@@ -18,11 +18,11 @@ returns-in-Passed c = let got = c.fetch_pack in
     let o = a.out.now in
     let call = fetch a.job.now (length o) in
     let both = replied (fetch_reply (layout_in a.shelf.now) a.job.now (length o) a.shelf.now) (said a.shelf.now (own call)) got.result o got.new.out
-    (said_passed a.shelf.now call (sym c.test_shelf-tested.ensures ∙ c.in-Passed.is)) got.ensures.answer got.ensures.output in record { answer = both.0; output = both.1 }
+    (said_passed a.shelf.now call (sym c.test_shelf.ensures ∙ c.in-Passed.is)) got.ensures.answer got.ensures.output in record { answer = both.0; output = both.1 }
 
 pub returns-in-Refused : goal.returns-in-Refused
 returns-in-Refused c = let a = c.args in
     let o = a.out.now in
     let call = fetch a.job.now (length o) in
     let both = replied (refusal c.in-Refused.number c.in-Refused.place) (said a.shelf.now (own call)) c.plain.result o o
-    (said_refused a.shelf.now call c.in-Refused.number c.in-Refused.place (sym c.test_shelf-tested.ensures ∙ c.in-Refused.is)) c.plain.ensures refl in record { answer = both.0; output = both.1 }
+    (said_refused a.shelf.now call c.in-Refused.number c.in-Refused.place (sym c.test_shelf.ensures ∙ c.in-Refused.is)) c.plain.ensures refl in record { answer = both.0; output = both.1 }

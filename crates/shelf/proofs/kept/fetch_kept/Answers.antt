@@ -20,7 +20,7 @@ returns-in-Accepted c = let a = c.args in
     let known = c.in-Accepted.known_told-1-own.given in
     let F = c.in-Accepted.loss in
     let G = c.in-Accepted.gap in
-    let V-is = sym c.in-Accepted.is ∙ c.kept_verdict-verdict.ensures in
+    let V-is = sym c.in-Accepted.is ∙ c.kept_verdict.ensures in
     let f = to_z-of_z {w = w64} {z = F} (record { sfits = known.0.1 }) in
     let g = to_z-of_z {w = w64} {z = G} (record { sfits = known.1.0.1 }) in
     let both = replied (handed (length o) v (Accepted (to_z w64 (of_z w64 F)) (to_z w64 (of_z w64 G)))) (handed (length o) v (kept_verdict (job_of a.words.now) v a.multipliers.now)) c.hand_out.result o c.hand_out.new.out
@@ -31,4 +31,4 @@ returns-in-Refused c = let a = c.args in
     let o = a.out.now in
     let v = a.values.now in
     let both = replied (refusal c.in-Refused.number c.in-Refused.place) (handed (length o) v (kept_verdict (job_of a.words.now) v a.multipliers.now)) c.plain.result o o
-    (ap {B = Reply} (λ (w : Verdict). handed (length o) v w) (sym c.in-Refused.is ∙ c.kept_verdict-verdict.ensures)) c.plain.ensures refl in record { answer = both.0; output = both.1 }
+    (ap {B = Reply} (λ (w : Verdict). handed (length o) v w) (sym c.in-Refused.is ∙ c.kept_verdict.ensures)) c.plain.ensures refl in record { answer = both.0; output = both.1 }

@@ -2,6 +2,7 @@
 use mathlib.Core.Path.{refl, ap, ◌∙◌}
 use lib.IntN.{ℤ, nat_abs}
 use lib.ListN.{length}
+use borrow.Rule.Slice.PartMut.{put_mid}
 use mir.Facts.{to_z-of_z}
 use Rattle.measure.specs.declared.check.Verdict.TheVariants.{Accepted}
 use Rattle.checked.specs.Answers.{refusal}
@@ -25,6 +26,6 @@ returns c = let a = c.args in
     let gap = c.size_of-g in
     let f = loss.ensures ∙ ap (λ (z : ℤ). nat_abs z) (to_z-of_z c.ranges.loss) in
     let g = gap.ensures ∙ ap (λ (z : ℤ). nat_abs z) (to_z-of_z c.ranges.gap) in
-    let both = replied (record { answer = record { number = 0; place = length v; loss = loss.result; gap = gap.result }; values = v }) (handed (length o) v (Accepted a.loss a.gap)) (record { number = 0; place = length v; loss = loss.result; gap = gap.result }) o c.copy_words.new.dst
-    (hand_given (length o) v a.loss a.gap c.if-out-n.false loss.result gap.result f g) refl c.copy_words.ensures in
+    let both = replied (record { answer = record { number = 0; place = length v; loss = loss.result; gap = gap.result }; values = v }) (handed (length o) v (Accepted a.loss a.gap)) (record { number = 0; place = length v; loss = loss.result; gap = gap.result }) o (put_mid 0 (length v) o c.copy_from_slice.new.self)
+    (hand_given (length o) v a.loss a.gap c.if-out-n.false loss.result gap.result f g) refl (ap (put_mid 0 (length v) o) c.copy_from_slice.ensures.after) in
     record { answer = both.0; output = both.1 }

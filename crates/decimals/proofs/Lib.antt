@@ -3,4 +3,3 @@ pub mod Digits
 pub mod Stores
 pub mod Wholes
 pub mod Back
-pub mod Copies

@@ -10,7 +10,7 @@ use lib.ListN.{length, get_or, set, take, drop, replicate, length-append, length
 use lib.Seq.{sets, take-suc, length-take-le}
 use borrow.Rule.Slice.PartMut.{put_mid}
 use Rattle.numbers.proofs.Stores.{sets_append}
-use Rattle.decimals.proofs.Copies.{placed, placed_first}
+use Rattle.numbers.proofs.Copies.{placed, placed_first}
 use Rattle.jobs.proofs.Handed.{held_room, held_part}
 use Rattle.imports.specs.declared.Given.{Given}
 use Rattle.imports.specs.Imports.{word_upto, cell_of, cells_of, head_of, words_of}

@@ -3,7 +3,7 @@ use mathlib.Core.Path.{refl}
 use native.Mathlib.Omega.{arith}
 use borrow.Author.Tests.{le-ltb, ne_eqb}
 use lib.Seq.{length-take-le}
-use Rattle.decimals.proofs.Copies.{placed_first}
+use Rattle.numbers.proofs.Copies.{placed_first}
 use Rattle.exports.proofs.back.hand_out.Goals as goal
 
 pub returns : goal.returns

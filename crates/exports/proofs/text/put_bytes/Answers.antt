@@ -1,6 +1,6 @@
 use mathlib.Core.Path.{refl}
 use native.Mathlib.Omega.{arith}
-use Rattle.decimals.proofs.Copies.{placed}
+use Rattle.numbers.proofs.Copies.{placed}
 use Rattle.exports.proofs.text.put_bytes.Goals as goal
 
 pub returns : goal.returns

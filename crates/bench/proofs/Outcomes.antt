@@ -1,5 +1,5 @@
 -- The same for how reading, writing and proposing end.
-use Rattle.std.proofs.Common.{◌≡◌, ℕ, ◌+◌, ◌*◌, ◌≤◌, Bool, true, false, eqb, ltb, List, [], ℤ, sym, refl, ap, subst, arith, eqb-true}
+use Rattle.std.proofs.Common.{◌≡◌, ℕ, ◌+◌, ◌*◌, ◌≤◌, Bool, true, false, eqb, ltb, List, [], ℤ, sym, refl, ap, subst, arith, eqb-true, Ok, Err}
 use Rattle.std.specs.Prelude.{if◌then◌else◌}
 use Rattle.fields.specs.Table.{values_from}
 use Rattle.packs.specs.declared.Outcome.{Outcome}
@@ -13,8 +13,7 @@ use Rattle.jobs.specs.Allowed.{Allowed}
 use Rattle.jobs.specs.Packs.{as_six, handed_out, read_job, read_job_into, write_job, write_proposal}
 use Rattle.jobs.proofs.Readings.{read_jobs_allowed}
 use Rattle.jobs.proofs.Near.{job_read_near, job_written_near, proposal_written_near}
-use Rattle.factor.specs.declared.Ending.{Ending}
-use Rattle.factor.specs.declared.Ending.TheVariants.{Whole, Thin}
+use Rattle.factor.specs.Factor.{Ending}
 use Rattle.measure.specs.declared.check.Verdict.{Verdict}
 use Rattle.measure.specs.declared.check.Verdict.TheVariants.{Accepted, Refused as Refuses}
 use Rattle.measure.specs.Check.{on_read, proposal_verdict, check_of}
@@ -74,8 +73,8 @@ unfolding proposed_of
 proposed_small room j A = wide (ltb 12 j.columns) (go (solved_of j).ending refl)
   where
     go : (e : Ending) → (solved_of j).ending ≡ e → Small (outcome_of (on_ending room j (solved_of j).values e).outcome)
-    go Whole q = proposal_small room j A (words_of j (solved_of j).values)
-    go (Thin cell pivot) q = record { number = omega arith; place = omega (arith, thin_cell j cell pivot q, A.cells_few) }
+    go (Ok whole) q = proposal_small room j A (words_of j (solved_of j).values)
+    go (Err thin) q = record { number = omega arith; place = omega (arith, thin_cell j thin q, A.cells_few) }
 
     wide : (b : Bool) → Small (outcome_of (on_ending room j (solved_of j).values (solved_of j).ending).outcome)
         → Small (outcome_of (if b then refused 20 0 else on_ending room j (solved_of j).values (solved_of j).ending).outcome)

@@ -1,4 +1,5 @@
 -- No call writes further on than its place: what it makes is no longer than the place says, and a store leaves what lies beyond it.
+use Rattle.std.specs.Prelude.{Ok, Err}
 use Prim.Native.Nat.{ℕ, zero, suc, ◌+◌, ◌*◌, ◌-◌, ◌≤◌, ◌<◌}
 use mathlib.Core.Path.{◌≡◌, refl, sym, ap, ◌∙◌}
 use mathlib.Core.Bool.{Bool, true, false, cond}
@@ -22,8 +23,7 @@ use Rattle.jobs.specs.Packs.{handed_out, read_job, read_job_into, write_job, wri
 use Rattle.jobs.proofs.Readings.{six_done, read_words_counted}
 use Rattle.measure.specs.declared.check.Verdict.{Verdict}
 use Rattle.measure.specs.declared.check.Verdict.TheVariants.{Accepted, Refused as Denied}
-use Rattle.factor.specs.declared.Ending.{Ending}
-use Rattle.factor.specs.declared.Ending.TheVariants.{Whole, Thin}
+use Rattle.factor.specs.Factor.{Ending}
 use Rattle.house.specs.Proposal.{words_of, on_ending, solved_of, proposed_of, on_job_read, propose_of}
 use Rattle.slots.specs.declared.Slot.{Slot}
 use Rattle.slots.specs.declared.Slot.TheVariants.{At, Nowhere}
@@ -96,8 +96,8 @@ proposal_within room j ws =
     room_within room w.bytes w.outcome (λ n e. omega (arith, length_written ws first 0 n (six_done (write_from ws first 0).outcome n e)))
 
 ending_within : (room : ℕ) (j : Job) (v : List Float) (e : Ending) → Within (on_ending room j v e).outcome (on_ending room j v e).bytes
-ending_within room j v Whole = proposal_within room j (words_of j v)
-ending_within room j v (Thin cell pivot) = omega arith
+ending_within room j v (Ok whole) = proposal_within room j (words_of j v)
+ending_within room j v (Err thin) = omega arith
 
 proposed_within : (room : ℕ) (j : Job) → Within (proposed_of room j).outcome (proposed_of room j).bytes
 unfolding proposed_of

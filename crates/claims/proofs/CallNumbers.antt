@@ -1,4 +1,5 @@
 -- Which numbers each call's answer can have: document 01's tests, one after another.
+use Rattle.std.specs.Prelude.{Ok, Err}
 use Prim.Native.Nat.{ℕ, ◌+◌, ◌*◌, ◌≤◌}
 use mathlib.Core.Path.{◌≡◌, refl, sym, subst}
 use mathlib.Core.Logic.{◌⊎◌, inl, inr}
@@ -20,8 +21,7 @@ use Rattle.jobs.specs.Allowed.{Allowed}
 use Rattle.jobs.specs.Packs.{handed_out, read_job, read_job_into, write_job, write_proposal}
 use Rattle.jobs.proofs.Near.{job_read_near, job_written_near}
 use Rattle.jobs.proofs.Readings.{read_jobs_allowed}
-use Rattle.factor.specs.declared.Ending.{Ending}
-use Rattle.factor.specs.declared.Ending.TheVariants.{Whole, Thin}
+use Rattle.factor.specs.Factor.{Ending}
 use Rattle.measure.specs.declared.check.Verdict.{Verdict}
 use Rattle.measure.specs.declared.check.Verdict.TheVariants.{Accepted, Refused}
 use Rattle.measure.specs.Loss.{loss_of}
@@ -105,8 +105,8 @@ proposed_number room j A = wide (ltb 12 j.columns) (go (solved_of j).ending)
     wide false h = h
 
     go : (e : Ending) → HouseNumber (on_ending room j (solved_of j).values e)
-    go Whole = let w = house_writes j A (solved_of j).values in done_number room (write_proposal j.cells j.links (words_of j (solved_of j).values)) w.0 w.1
-    go (Thin cell pivot) = inl refl
+    go (Ok whole) = let w = house_writes j A (solved_of j).values in done_number room (write_proposal j.cells j.links (words_of j (solved_of j).values)) w.0 w.1
+    go (Err thin) = inl refl
 
 pub propose_number : (room : ℕ) (job : List ℕ) → HouseNumber (propose_of room job)
 propose_number room job = go (read_job job).outcome refl (job_read_near job)

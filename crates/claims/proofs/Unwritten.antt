@@ -1,4 +1,5 @@
 -- A refusal writes nothing, and its F and G are 0: for how reading, writing and proposing end, and for the check.
+use Rattle.std.specs.Prelude.{Ok, Err}
 use Prim.Native.Nat.{ℕ}
 use mathlib.Core.Path.{◌≡◌, refl, ap}
 use mathlib.Core.Bool.{Bool, true, false}
@@ -17,8 +18,7 @@ use Rattle.jobs.specs.Words.{job_of}
 use Rattle.jobs.specs.Packs.{handed_out, read_job, read_job_into, write_proposal}
 use Rattle.measure.specs.declared.check.Verdict.{Verdict}
 use Rattle.measure.specs.declared.check.Verdict.TheVariants.{Accepted, Refused}
-use Rattle.factor.specs.declared.Ending.{Ending}
-use Rattle.factor.specs.declared.Ending.TheVariants.{Whole, Thin}
+use Rattle.factor.specs.Factor.{Ending}
 use Rattle.house.specs.Proposal.{words_of, on_ending, solved_of, proposed_of, on_job_read, propose_of}
 use Rattle.checked.specs.declared.Answer.{Answer}
 use Rattle.checked.specs.Answers.{overwritten, answer_of}
@@ -59,10 +59,10 @@ handed_nothing room words (Done k) n = go (ltb room k) n
     go false m = absurd (m refl)
 
 ending_nothing : (room : ℕ) (j : Job) (v : List Float) (e : Ending) → Nothing (on_ending room j v e).outcome (on_ending room j v e).bytes
-ending_nothing room j v Whole n =
+ending_nothing room j v (Ok whole) n =
     let w = write_proposal j.cells j.links (words_of j v) in
     room_nothing room w.bytes w.outcome n
-ending_nothing room j v (Thin cell pivot) n = refl
+ending_nothing room j v (Err thin) n = refl
 
 proposed_nothing : (room : ℕ) (j : Job) → Nothing (proposed_of room j).outcome (proposed_of room j).bytes
 unfolding proposed_of

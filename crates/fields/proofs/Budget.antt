@@ -6,14 +6,16 @@ use mathlib.Core.Bool.{Bool, true, false}
 use native.Mathlib.Omega.{arith}
 use borrow.Author.Tests.{ltb-true, eqb-false}
 use lib.Dec.{leb, ltb, eqb}
-use Rattle.std.specs.Prelude.{if◌then◌else◌}
+use Rattle.std.specs.Prelude.{Ok, Err, if◌then◌else◌}
+use Rattle.refusals.specs.declared.Refusal.{Refusal}
+use Rattle.refusals.specs.declared.Refusal.TheVariants.{FloorAbove, TooFewWeights, BadTerm}
+use Rattle.refusals.specs.Refusals.{number_of, place_of}
+use Rattle.fields.specs.declared.Barred.TheVariants.{Unallowed, Other}
 use Rattle.fields.specs.declared.cells.Cells.{Cells}
 use Rattle.fields.specs.declared.links.Links.{Links}
 use Rattle.fields.specs.declared.Field.{Field}
 use Rattle.fields.specs.declared.Field.TheVariants.{Society, Job, Count, Order, Rows, Columns, OrderDown, OrderAcross, SecondConstant, Constant, Tolerance, Crude, Weight, Floor, Ceiling, LinkCount, TermCount, Cell, Coefficient, Bound, Value, Multiplier, End}
-use Rattle.fields.specs.declared.Step.{Step}
-use Rattle.fields.specs.declared.Step.TheVariants.{Next, NotAllowed, Refused}
-use Rattle.fields.specs.Table.{within, within_signed, rule, order_used, shaped, are_columns, is_order, after_order, lacking, in_row, next_row, weighed, next_cell, after_ceiling, with_terms, with_least, after_coefficient, links_from, multipliers_from, values_from, step_of}
+use Rattle.fields.specs.Table.{Step, within, within_signed, rule, order_used, shaped, are_columns, is_order, after_order, lacking, in_row, next_row, weighed, next_cell, after_ceiling, with_terms, with_least, after_coefficient, links_from, multipliers_from, values_from, step_of}
 use Rattle.fields.proofs.Rows.{within_both}
 
 -- ---- the most numbers that can follow, the field's own among them
@@ -88,15 +90,15 @@ pub record Onward (f g : Field) : Type 0 where
   pub less : budget g + 1 ≤ budget f
   pub slower : standing g + budget g ≤ standing f + budget f
 
-pub record Own (f : Field) (number place : ℕ) : Type 0 where
-  pub some : 3 ≤ number
-  pub few : number ≤ 5
-  pub near : place ≤ standing f
+pub record Own (f : Field) (r : Refusal) : Type 0 where
+  pub some : 3 ≤ number_of r
+  pub few : number_of r ≤ 5
+  pub near : place_of r ≤ standing f
 
 abbrev pub Kept : Field → Step → Type 0
-Kept f (Next g) = Onward f g
-Kept f NotAllowed = Unit {0}
-Kept f (Refused number place) = Own f number place
+Kept f (Ok g) = Onward f g
+Kept f (Err Unallowed) = Unit {0}
+Kept f (Err (Other r)) = Own f r
 
 ruled : (f : Field) (allowed : Bool) (s : Step) → (allowed ≡ true → Kept f s) → Kept f (rule allowed s)
 ruled f true s k = k refl
@@ -106,7 +108,7 @@ after_ceiling_lem : (c : Cells) (lo hi : ℕ) → Kept (Ceiling c lo) (after_cei
 after_ceiling_lem c lo hi = go (ltb hi lo) (ltb (c.cell + 1) c.n) refl (ltb 0 (c.want / 8))
   where
     go : (a b : Bool) → ltb (c.cell + 1) c.n ≡ b → (w : Bool)
-        → Kept (Ceiling c lo) (if a then Refused 3 c.cell else if b then Next (Crude (next_cell c)) else if w then Refused 4 0 else Next (LinkCount c.n))
+        → Kept (Ceiling c lo) (if a then Err (Other (FloorAbove c.cell)) else if b then Ok (Crude (next_cell c)) else if w then Err (Other TooFewWeights) else Ok (LinkCount c.n))
     go true b e w = record { some = omega arith; few = omega arith; near = omega arith }
     go false true e w = let h = ltb-true (c.cell + 1) c.n e in record { less = omega arith; slower = omega arith }
     go false false e true = record { some = omega arith; few = omega arith; near = omega arith }
@@ -123,7 +125,7 @@ after_coefficient_lem : (l : Links) (x : ℕ) → Kept (Coefficient l) (after_co
 after_coefficient_lem l x = go (eqb x 0) (eqb l.least 0) (ltb 1 l.terms) refl
   where
     go : (a r b : Bool) → ltb 1 l.terms ≡ b
-        → Kept (Coefficient l) (if a then Refused 5 l.link else if r then Refused 5 l.link else if b then Next (Cell (record { n = l.n; links = l.links; link = l.link; terms = l.terms - 1; least = l.least })) else Next (Bound l))
+        → Kept (Coefficient l) (if a then Err (Other (BadTerm l.link)) else if r then Err (Other (BadTerm l.link)) else if b then Ok (Cell (record { n = l.n; links = l.links; link = l.link; terms = l.terms - 1; least = l.least })) else Ok (Bound l))
     go true r b e = record { some = omega arith; few = omega arith; near = omega arith }
     go false true b e = record { some = omega arith; few = omega arith; near = omega arith }
     go false false true e = let h = ltb-true 1 l.terms e in record { less = omega arith; slower = omega arith }
@@ -155,9 +157,9 @@ after_order_lem n x = go (eqb x 5)
     line : Field
     line = Constant (shaped n 1 (order_used x) 1) 0
 
-    go : (t : Bool) → Kept (Order n) (if t then Next (Rows n) else rule (is_order n (order_used x)) (Next line))
+    go : (t : Bool) → Kept (Order n) (if t then Ok (Rows n) else rule (is_order n (order_used x)) (Ok line))
     go true = falls (omega arith) refl
-    go false = ruled (Order n) (is_order n (order_used x)) (Next line) (λ e. falls (omega arith) refl)
+    go false = ruled (Order n) (is_order n (order_used x)) (Ok line) (λ e. falls (omega arith) refl)
 
 after_weight : (c : Cells) (x : ℕ) → Onward (Weight c) (Floor (weighed c x))
 after_weight c x = go (ltb (c.column + 1) (c.row / 8))
@@ -168,38 +170,38 @@ after_weight c x = go (ltb (c.column + 1) (c.row / 8))
 
 pub step_kept : (f : Field) (x : ℕ) → Kept f (step_of f x)
 unfolding step_of
-step_kept Society x = ruled Society (within 0 7 x) (Next Job) (λ e. falls (omega arith) refl)
-step_kept Job x = ruled Job (within 0 4294967295 x) (Next Count) (λ e. falls (omega arith) refl)
-step_kept Count x = ruled Count (within 2 120 x) (Next (Order x)) (λ e. falls (omega (arith, within_both 2 120 x e)) refl)
+step_kept Society x = ruled Society (within 0 7 x) (Ok Job) (λ e. falls (omega arith) refl)
+step_kept Job x = ruled Job (within 0 4294967295 x) (Ok Count) (λ e. falls (omega arith) refl)
+step_kept Count x = ruled Count (within 2 120 x) (Ok (Order x)) (λ e. falls (omega (arith, within_both 2 120 x e)) refl)
 step_kept (Order n) x = after_order_lem n x
-step_kept (Rows n) x = ruled (Rows n) (leb 2 x) (Next (Columns n x)) (λ e. falls (omega arith) refl)
-step_kept (Columns n rows) x = ruled (Columns n rows) (are_columns n rows x) (Next (OrderDown (shaped n x 0 0) rows)) (λ e. falls (omega arith) refl)
+step_kept (Rows n) x = ruled (Rows n) (leb 2 x) (Ok (Columns n x)) (λ e. falls (omega arith) refl)
+step_kept (Columns n rows) x = ruled (Columns n rows) (are_columns n rows x) (Ok (OrderDown (shaped n x 0 0) rows)) (λ e. falls (omega arith) refl)
 step_kept (OrderDown c rows) x =
-    ruled (OrderDown c rows) (is_order rows x) (Next (OrderAcross (shaped c.n (c.row / 8) x 0))) (λ e. falls (omega arith) refl)
+    ruled (OrderDown c rows) (is_order rows x) (Ok (OrderAcross (shaped c.n (c.row / 8) x 0))) (λ e. falls (omega arith) refl)
 step_kept (OrderAcross c) x =
-    ruled (OrderAcross c) (is_order (c.row / 8) x) (Next (SecondConstant (shaped c.n (c.row / 8) (c.want / 8) x))) (λ e. falls (omega arith) refl)
-step_kept (SecondConstant c) x = ruled (SecondConstant c) (within 1 999 x) (Next (Constant c x)) (λ e. falls (omega arith) refl)
-step_kept (Constant c second) x = ruled (Constant c second) (within 1 (1000 - second) x) (Next (Tolerance c)) (λ e. falls (omega arith) refl)
-step_kept (Tolerance c) x = ruled (Tolerance c) (within 0 1000000000000000 x) (Next (Crude c)) (λ e. falls (omega arith) refl)
-step_kept (Crude c) x = ruled (Crude c) (within 0 1000000 x) (Next (Weight c)) (λ e. falls (omega arith) refl)
-step_kept (Weight c) x = ruled (Weight c) (within 0 1000 x) (Next (Floor (weighed c x))) (λ e. after_weight c x)
-step_kept (Floor c) x = ruled (Floor c) (within 0 1000000 x) (Next (Ceiling c x)) (λ e. falls (omega arith) refl)
+    ruled (OrderAcross c) (is_order (c.row / 8) x) (Ok (SecondConstant (shaped c.n (c.row / 8) (c.want / 8) x))) (λ e. falls (omega arith) refl)
+step_kept (SecondConstant c) x = ruled (SecondConstant c) (within 1 999 x) (Ok (Constant c x)) (λ e. falls (omega arith) refl)
+step_kept (Constant c second) x = ruled (Constant c second) (within 1 (1000 - second) x) (Ok (Tolerance c)) (λ e. falls (omega arith) refl)
+step_kept (Tolerance c) x = ruled (Tolerance c) (within 0 1000000000000000 x) (Ok (Crude c)) (λ e. falls (omega arith) refl)
+step_kept (Crude c) x = ruled (Crude c) (within 0 1000000 x) (Ok (Weight c)) (λ e. falls (omega arith) refl)
+step_kept (Weight c) x = ruled (Weight c) (within 0 1000 x) (Ok (Floor (weighed c x))) (λ e. after_weight c x)
+step_kept (Floor c) x = ruled (Floor c) (within 0 1000000 x) (Ok (Ceiling c x)) (λ e. falls (omega arith) refl)
 step_kept (Ceiling c lo) x = ruled (Ceiling c lo) (within 0 1000000 x) (after_ceiling c lo x) (λ e. after_ceiling_lem c lo x)
 step_kept (LinkCount n) x =
-    ruled (LinkCount n) (within 0 160 x) (Next (links_from n x 0))
+    ruled (LinkCount n) (within 0 160 x) (Ok (links_from n x 0))
     (λ e. let h = within_both 0 160 x e in links_from_lem (LinkCount n) n x 0 (omega arith) (omega arith))
 step_kept (TermCount l) x =
-    ruled (TermCount l) (within 1 4 x) (Next (Cell (with_terms l x))) (λ e. falls (omega (arith, within_both 1 4 x e)) refl)
+    ruled (TermCount l) (within 1 4 x) (Ok (Cell (with_terms l x))) (λ e. falls (omega (arith, within_both 1 4 x e)) refl)
 step_kept (Cell l) x =
-    ruled (Cell l) (ltb x l.n) (Next (Coefficient (with_least l (if leb l.least x then x + 1 else 0)))) (λ e. falls (omega arith) refl)
+    ruled (Cell l) (ltb x l.n) (Ok (Coefficient (with_least l (if leb l.least x then x + 1 else 0)))) (λ e. falls (omega arith) refl)
 step_kept (Coefficient l) x = ruled (Coefficient l) (within_signed 10 x) (after_coefficient l x) (λ e. after_coefficient_lem l x)
 step_kept (Bound l) x =
-    ruled (Bound l) (within_signed 1000000000 x) (Next (links_from l.n l.links (l.link + 1)))
+    ruled (Bound l) (within_signed 1000000000 x) (Ok (links_from l.n l.links (l.link + 1)))
     (λ e. links_from_lem (Bound l) l.n l.links (l.link + 1) (omega arith) (omega arith))
 step_kept (Value left links) x =
-    ruled (Value left links) (within 0 1000000 x) (Next (values_from (left - 1) links))
+    ruled (Value left links) (within 0 1000000 x) (Ok (values_from (left - 1) links))
     (λ e. let b = budget_values (left - 1) links in falls (omega (arith, b.0)) b.1)
 step_kept (Multiplier left) x =
-    ruled (Multiplier left) (within 0 1000000000 x) (Next (multipliers_from (left - 1)))
+    ruled (Multiplier left) (within 0 1000000000 x) (Ok (multipliers_from (left - 1)))
     (λ e. let b = budget_multipliers (left - 1) in falls (omega (arith, b.0)) b.1)
 step_kept End x = tt

@@ -1,5 +1,4 @@
 -- The laws behind the functions of this crate. Each file says what it is for.
 pub mod Tests
-pub mod Others
 pub mod Rows
 pub mod Budget

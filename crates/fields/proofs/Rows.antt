@@ -9,19 +9,19 @@ use Rattle.numbers.proofs.Clash.{clash}
 use Rattle.numbers.proofs.Both.{both}
 use Rattle.fields.specs.declared.Field.{Field}
 use Rattle.fields.specs.declared.Field.TheVariants.{Society, Job, Count, Order, Rows, Columns, OrderDown, OrderAcross, SecondConstant, Constant, Tolerance, Crude, Weight, Floor, Ceiling, LinkCount, TermCount, Cell, Coefficient, Bound, Value, Multiplier, End}
-use Rattle.fields.specs.declared.Step.{Step}
-use Rattle.fields.specs.declared.Step.TheVariants.{Next, NotAllowed}
-use Rattle.fields.specs.Table.{within, rule, are_columns, is_order, signed_at, end_at, step_of}
+use Rattle.std.specs.Prelude.{Ok, Err}
+use Rattle.fields.specs.declared.Barred.TheVariants.{Unallowed}
+use Rattle.fields.specs.Table.{Step, within, rule, are_columns, is_order, signed_at, end_at, step_of}
 
 -- a rule that lets the walk go on was kept
 pub record Kept (allowed : Bool) (s : Step) (g : Field) : Type 0 where
   pub ok : allowed ≡ true
-  pub next : s ≡ Next g
+  pub next : s ≡ Ok g
 
-pub kept : {allowed : Bool} {s : Step} {g : Field} → rule allowed s ≡ Next g → Kept allowed s g
+pub kept : {allowed : Bool} {s : Step} {g : Field} → rule allowed s ≡ Ok g → Kept allowed s g
 kept {allowed} {s} {g} e = go allowed refl e
   where
-    go : (o : Bool) → allowed ≡ o → rule o s ≡ Next g → Kept allowed s g
+    go : (o : Bool) → allowed ≡ o → rule o s ≡ Ok g → Kept allowed s g
     go true q e = record { ok = q; next = e }
     go false q e = clash (cc)
 
@@ -63,7 +63,7 @@ within_out most x h = go (within 0 most x) refl
     go false q = refl
 
 -- a signed number that nine groups do not hold is not allowed
-pub signed_large : (f : Field) (x : ℕ) → signed_at f ≡ true → 2 ^ 63 ≤ x → step_of f x ≡ NotAllowed
+pub signed_large : (f : Field) (x : ℕ) → signed_at f ≡ true → 2 ^ 63 ≤ x → step_of f x ≡ Err Unallowed
 unfolding step_of
 signed_large Society x t h = clash (cc)
 signed_large Job x t h = clash (cc)
@@ -90,7 +90,7 @@ signed_large (Multiplier a) x t h = clash (cc)
 signed_large End x t h = clash (cc)
 
 -- and so one that is allowed is small in its stored form
-pub signed_small : (f : Field) (x : ℕ) (g : Field) → signed_at f ≡ true → step_of f x ≡ Next g → x < 2 ^ 63
+pub signed_small : (f : Field) (x : ℕ) (g : Field) → signed_at f ≡ true → step_of f x ≡ Ok g → x < 2 ^ 63
 signed_small f x g t e = go (ltb x (2 ^ 63)) refl
   where
     go : (o : Bool) → ltb x (2 ^ 63) ≡ o → x < 2 ^ 63

@@ -1,13 +1,18 @@
 -- Document 01, "Numbers allowed", "Packs" and "Order", as one table: for each field of a pack what its number may be, what comes after it and
--- which refusal it can bring. `NotAllowed` is refusal 2 at the number's offset; `Refused` has its own number and place.
+-- which refusal it can bring. `Err Unallowed` is refusal 2 at the number's offset; `Other` is a refusal with its own place.
 use Rattle.std.specs.Prelude.{ℕ, ◌+◌, ◌-◌, ◌*◌, ◌/◌, ◌%◌, Bool, true, false, ◌&&◌, leb, ltb, eqb}
-use Rattle.std.specs.Prelude.{if◌then◌else◌}
+use Rattle.std.specs.Prelude.{Result, Ok, Err, if◌then◌else◌}
+use Rattle.refusals.specs.declared.Refusal.TheVariants.{FloorAbove, TooFewWeights, BadTerm}
 use Rattle.fields.specs.declared.cells.Cells.{Cells}
 use Rattle.fields.specs.declared.links.Links.{Links}
 use Rattle.fields.specs.declared.Field.{Field}
 use Rattle.fields.specs.declared.Field.TheVariants.{Society, Job, Count, Order, Rows, Columns, OrderDown, OrderAcross, SecondConstant, Constant, Tolerance, Crude, Weight, Floor, Ceiling, LinkCount, TermCount, Cell, Coefficient, Bound, Value, Multiplier, End}
-use Rattle.fields.specs.declared.Step.{Step}
-use Rattle.fields.specs.declared.Step.TheVariants.{Next, NotAllowed, Refused}
+use Rattle.fields.specs.declared.Barred.{Barred}
+use Rattle.fields.specs.declared.Barred.TheVariants.{Unallowed, Other}
+
+-- What a number does at a field: another follows, or the number is barred.
+abbrev pub Step : Type 0
+Step = Result Field Barred
 
 abbrev pub within : (least most : ℕ) → ℕ → Bool
 within least most x = leb least x && leb x most
@@ -18,7 +23,7 @@ within_signed most raw = within 0 (2 * most) raw
 
 -- "each number read (1) and then tested (2)": what comes after an allowed number.
 abbrev pub rule : Bool → Step → Step
-rule allowed s = if allowed then s else NotAllowed
+rule allowed s = if allowed then s else Err Unallowed
 
 -- "order field 0..4, where 0 means the house order 2"
 abbrev pub house_order : ℕ
@@ -49,7 +54,7 @@ abbrev pub grid_field : ℕ
 grid_field = 5
 
 abbrev pub after_order : (n : ℕ) → ℕ → Step
-after_order n x = if eqb x grid_field then Next (Rows n) else rule (is_order n (order_used x)) (Next (Constant (shaped n 1 (order_used x) 1) 0))
+after_order n x = if eqb x grid_field then Ok (Rows n) else rule (is_order n (order_used x)) (Ok (Constant (shaped n 1 (order_used x) 1) 0))
 
 -- What is wanted after a weight x: a positive one is one that its row lacks no longer.
 abbrev pub lacking : (want x : ℕ) → ℕ
@@ -75,10 +80,10 @@ next_cell c = record { n = c.n; row = c.row; want = c.want; column = c.column; c
 -- "3 after each hi; 4 after the last cell"; W-205: "4 when fewer rows than the order down hold at least the order across of positive weights"
 abbrev pub after_ceiling : Cells → (lo hi : ℕ) → Step
 after_ceiling c lo hi =
-    if ltb hi lo then Refused 3 c.cell else
-    if ltb (c.cell + 1) c.n then Next (Crude (next_cell c)) else
-    if ltb 0 (c.want / 8) then Refused 4 0 else
-    Next (LinkCount c.n)
+    if ltb hi lo then Err (Other (FloorAbove c.cell)) else
+    if ltb (c.cell + 1) c.n then Ok (Crude (next_cell c)) else
+    if ltb 0 (c.want / 8) then Err (Other TooFewWeights) else
+    Ok (LinkCount c.n)
 
 -- The link numbered j of so many, or the end.
 abbrev pub links_from : (n links j : ℕ) → Field
@@ -92,15 +97,15 @@ abbrev pub with_least : Links → ℕ → Links
 with_least l x = record { n = l.n; links = l.links; link = l.link; terms = l.terms; least = x }
 
 abbrev pub after_cell : Links → ℕ → Step
-after_cell l x = rule (ltb x l.n) (Next (Coefficient (with_least l (if leb l.least x then x + 1 else 0))))
+after_cell l x = rule (ltb x l.n) (Ok (Coefficient (with_least l (if leb l.least x then x + 1 else 0))))
 
 -- "5 after each term (a coefficient 0 is 5, never 2)"; then the next term, or the bound.
 abbrev pub after_coefficient : Links → ℕ → Step
 after_coefficient l x =
-    if eqb x 0 then Refused 5 l.link else
-    if eqb l.least 0 then Refused 5 l.link else
-    if ltb 1 l.terms then Next (Cell (record { n = l.n; links = l.links; link = l.link; terms = l.terms - 1; least = l.least })) else
-    Next (Bound l)
+    if eqb x 0 then Err (Other (BadTerm l.link)) else
+    if eqb l.least 0 then Err (Other (BadTerm l.link)) else
+    if ltb 1 l.terms then Ok (Cell (record { n = l.n; links = l.links; link = l.link; terms = l.terms - 1; least = l.least })) else
+    Ok (Bound l)
 
 -- "one multiplier per link, nothing after"
 abbrev pub multipliers_from : ℕ → Field
@@ -112,29 +117,29 @@ values_from left links = if eqb left 0 then multipliers_from links else Value le
 
 -- The table. A coefficient and a bound stand in their stored form. W-205: "both constants are at least 1 and together at most 1,000", tested at k.
 unfoldable pub step_of : Field → ℕ → Step
-step_of Society x = rule (within 0 7 x) (Next Job)
-step_of Job x = rule (within 0 4294967295 x) (Next Count)
-step_of Count x = rule (within 2 120 x) (Next (Order x))
+step_of Society x = rule (within 0 7 x) (Ok Job)
+step_of Job x = rule (within 0 4294967295 x) (Ok Count)
+step_of Count x = rule (within 2 120 x) (Ok (Order x))
 step_of (Order n) x = after_order n x
-step_of (Rows n) x = rule (leb 2 x) (Next (Columns n x))
-step_of (Columns n rows) x = rule (are_columns n rows x) (Next (OrderDown (shaped n x 0 0) rows))
-step_of (OrderDown c rows) x = rule (is_order rows x) (Next (OrderAcross (shaped c.n (c.row / 8) x 0)))
-step_of (OrderAcross c) x = rule (is_order (c.row / 8) x) (Next (SecondConstant (shaped c.n (c.row / 8) (c.want / 8) x)))
-step_of (SecondConstant c) x = rule (within 1 999 x) (Next (Constant c x))
-step_of (Constant c second) x = rule (within 1 (1000 - second) x) (Next (Tolerance c))
-step_of (Tolerance c) x = rule (within 0 1000000000000000 x) (Next (Crude c))
-step_of (Crude c) x = rule (within 0 1000000 x) (Next (Weight c))
-step_of (Weight c) x = rule (within 0 1000 x) (Next (Floor (weighed c x)))
-step_of (Floor c) x = rule (within 0 1000000 x) (Next (Ceiling c x))
+step_of (Rows n) x = rule (leb 2 x) (Ok (Columns n x))
+step_of (Columns n rows) x = rule (are_columns n rows x) (Ok (OrderDown (shaped n x 0 0) rows))
+step_of (OrderDown c rows) x = rule (is_order rows x) (Ok (OrderAcross (shaped c.n (c.row / 8) x 0)))
+step_of (OrderAcross c) x = rule (is_order (c.row / 8) x) (Ok (SecondConstant (shaped c.n (c.row / 8) (c.want / 8) x)))
+step_of (SecondConstant c) x = rule (within 1 999 x) (Ok (Constant c x))
+step_of (Constant c second) x = rule (within 1 (1000 - second) x) (Ok (Tolerance c))
+step_of (Tolerance c) x = rule (within 0 1000000000000000 x) (Ok (Crude c))
+step_of (Crude c) x = rule (within 0 1000000 x) (Ok (Weight c))
+step_of (Weight c) x = rule (within 0 1000 x) (Ok (Floor (weighed c x)))
+step_of (Floor c) x = rule (within 0 1000000 x) (Ok (Ceiling c x))
 step_of (Ceiling c lo) x = rule (within 0 1000000 x) (after_ceiling c lo x)
-step_of (LinkCount n) x = rule (within 0 160 x) (Next (links_from n x 0))
-step_of (TermCount l) x = rule (within 1 4 x) (Next (Cell (with_terms l x)))
+step_of (LinkCount n) x = rule (within 0 160 x) (Ok (links_from n x 0))
+step_of (TermCount l) x = rule (within 1 4 x) (Ok (Cell (with_terms l x)))
 step_of (Cell l) x = after_cell l x
 step_of (Coefficient l) x = rule (within_signed 10 x) (after_coefficient l x)
-step_of (Bound l) x = rule (within_signed 1000000000 x) (Next (links_from l.n l.links (l.link + 1)))
-step_of (Value left links) x = rule (within 0 1000000 x) (Next (values_from (left - 1) links))
-step_of (Multiplier left) x = rule (within 0 1000000000 x) (Next (multipliers_from (left - 1)))
-step_of End x = NotAllowed
+step_of (Bound l) x = rule (within_signed 1000000000 x) (Ok (links_from l.n l.links (l.link + 1)))
+step_of (Value left links) x = rule (within 0 1000000 x) (Ok (values_from (left - 1) links))
+step_of (Multiplier left) x = rule (within 0 1000000000 x) (Ok (multipliers_from (left - 1)))
+step_of End x = Err Unallowed
 
 -- "Coefficients and b are stored as 2x for x >= 0 and -2x-1 below": these fields, and no others.
 abbrev pub signed_at : Field → Bool

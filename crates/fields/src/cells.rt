@@ -2,8 +2,9 @@
 ghost use Rattle.std.specs.Prelude.{◌≡◌};
 ghost use Rattle.fields.specs.Table.{lacking, rows_wanted, next_row, weighed, after_ceiling};
 
-use crate::limits::{fewer, has_more};
-use crate::{Field, Step};
+use crate::limits::has_more;
+use crate::{Barred, Field, Step};
+use refusals::Refusal;
 
 // The cell that a walk stands in: of how many; what a row is, 8 times its columns and its order across; what is wanted, 8 times the rows with enough
 // positive weights and the weights that the cell's own row lacks; and its column.
@@ -20,38 +21,34 @@ pub struct Cells {
 fn lacks(want: u64, x: u64) -> u64
     ensures { result ≡ lacking want x }
 {
-    if 0 < x {
-        if 0 < want % 8 {
-            return want - 1;
-        }
+    if 0 < x && 0 < want % 8 {
+        want - 1
+    } else {
+        want
     }
-    want
 }
 
 // The rows wanted after a row's end.
 fn rows_wanted(want: u64) -> u64
     ensures { result ≡ rows_wanted want }
 {
+    let rows = want / 8;
     if want % 8 == 0 {
-        return fewer(want / 8);
+        rows.saturating_sub(1)
+    } else {
+        rows
     }
-    want / 8
 }
 
 fn next_row(c: Cells, want: u64) -> Cells
     ensures { result ≡ next_row c want }
 {
-    let n = c.n;
-    let row = c.row;
-    let cell = c.cell;
     let rows = rows_wanted(want);
-    let anew = 8 * rows + row % 8;
+    let anew = 8 * rows + c.row % 8;
     Cells {
-        n,
-        row,
         want: anew,
         column: 0,
-        cell,
+        ..c
     }
 }
 
@@ -59,20 +56,10 @@ fn next_row(c: Cells, want: u64) -> Cells
 pub fn with_weight(c: Cells, x: u64) -> Cells
     ensures { result ≡ weighed c x }
 {
-    let n = c.n;
-    let row = c.row;
-    let column = c.column;
-    let cell = c.cell;
     let want = lacks(c.want, x);
-    if has_more(column, row / 8) {
-        let next = column + 1;
-        return Cells {
-            n,
-            row,
-            want,
-            column: next,
-            cell,
-        };
+    if has_more(c.column, c.row / 8) {
+        let column = c.column + 1;
+        return Cells { want, column, ..c };
     }
     next_row(c, want)
 }
@@ -81,26 +68,15 @@ pub fn with_weight(c: Cells, x: u64) -> Cells
 pub fn after_ceiling(c: Cells, lo: u64, x: u64) -> Step
     ensures { result ≡ after_ceiling c lo x }
 {
-    let cell = c.cell;
-    let n = c.n;
-    let row = c.row;
-    let want = c.want;
-    let column = c.column;
     if x < lo {
-        return Step::Refused(3, cell);
+        return Err(Barred::Other(Refusal::FloorAbove(c.cell as usize)));
     }
-    if has_more(cell, n) {
-        let next = cell + 1;
-        return Step::Next(Field::Crude(Cells {
-            n,
-            row,
-            want,
-            column,
-            cell: next,
-        }));
+    if has_more(c.cell, c.n) {
+        let cell = c.cell + 1;
+        return Ok(Field::Crude(Cells { cell, ..c }));
     }
-    if 0 < want / 8 {
-        return Step::Refused(4, 0);
+    if 0 < c.want / 8 {
+        return Err(Barred::Other(Refusal::TooFewWeights));
     }
-    Step::Next(Field::LinkCount(n))
+    Ok(Field::LinkCount(c.n))
 }

@@ -8,16 +8,16 @@ pub mod links;
 pub mod proposal;
 pub mod shape;
 
-ghost use Rattle.std.specs.Prelude.{◌≡◌, ◌-◌};
+ghost use Rattle.std.specs.Prelude.{◌≡◌, ◌-◌, Ok};
 ghost use Rattle.fields.specs.declared.Field.TheVariants.{Tolerance};
-ghost use Rattle.fields.specs.declared.Step.TheVariants.{Next};
 ghost use Rattle.fields.specs.Table.{within, within_signed, rule, after_coefficient, step_of, signed_at, end_at};
 
 use crate::cells::{Cells, after_ceiling, with_weight};
-use crate::limits::{is_within, less};
+use crate::limits::is_within;
 use crate::links::{Links, after_bound, after_cell, after_coefficient, first_link, with_terms};
 use crate::proposal::{after_multiplier, after_value};
 use crate::shape::{after_across, after_columns, after_down, after_order};
+use refusals::Refusal;
 
 // The field whose number comes next, with what the numbers before it fix.
 #[derive(Clone, Copy)]
@@ -47,35 +47,34 @@ pub enum Field {
     End,
 }
 
-// What a number does: another field follows, the number is not allowed, or another refusal with its number and place.
+// Why a number stops the walk: it is not allowed where it stands, or the table has another refusal for what it tells.
 #[derive(Clone, Copy)]
-pub enum Step {
-    Next(Field),
-    NotAllowed,
-    Refused(u64, u64),
+pub enum Barred {
+    Unallowed,
+    Other(Refusal),
 }
+
+// What a number does: another field follows, or it is barred.
+pub type Step = Result<Field, Barred>;
 
 fn ruled(allowed: bool, s: Step) -> Step
     ensures { result ≡ rule allowed s }
 {
-    if allowed {
-        return s;
-    }
-    Step::NotAllowed
+    if allowed { s } else { Err(Barred::Unallowed) }
 }
 
 fn next_if(allowed: bool, f: Field) -> Step
-    ensures { result ≡ rule allowed (Next f) }
+    ensures { result ≡ rule allowed (Ok f) }
 {
-    ruled(allowed, Step::Next(f))
+    ruled(allowed, Ok(f))
 }
 
 // k, after a second constant.
 fn after_constant(c: Cells, second: u64, x: u64) -> Step
-    ensures { result ≡ rule (within 1 (1000 - second) x) (Next (Tolerance c)) }
+    ensures { result ≡ rule (within 1 (1000 - second) x) (Ok (Tolerance c)) }
 {
     next_if(
-        is_within(1, less(limits::CONSTANT, second), x),
+        is_within(1, limits::CONSTANT.saturating_sub(second), x),
         Field::Tolerance(c),
     )
 }
@@ -94,21 +93,14 @@ fn after_stored(l: Links, x: u64) -> Step
 pub fn is_signed(f: Field) -> bool
     ensures { result ≡ signed_at f }
 {
-    match f {
-        Field::Coefficient(_) => true,
-        Field::Bound(_) => true,
-        _ => false,
-    }
+    matches!(f, Field::Coefficient(_) | Field::Bound(_))
 }
 
 // Whether the pack is whole.
 pub fn is_end(f: Field) -> bool
     ensures { result ≡ end_at f }
 {
-    match f {
-        Field::End => true,
-        _ => false,
-    }
+    matches!(f, Field::End)
 }
 
 // What the number x does at a field.
@@ -147,6 +139,6 @@ pub fn after(f: Field, x: u64) -> Step
         Field::Bound(l) => next_if(is_within(0, 2 * limits::BOUND, x), after_bound(l)),
         Field::Value(n, links) => next_if(is_within(0, limits::RATE, x), after_value(n, links)),
         Field::Multiplier(n) => next_if(is_within(0, limits::MULTIPLIER, x), after_multiplier(n)),
-        Field::End => Step::NotAllowed,
+        Field::End => Err(Barred::Unallowed),
     }
 }

@@ -1,5 +1,5 @@
 // What document 01 allows at most ("Numbers allowed"), and the tests against it.
-ghost use Rattle.std.specs.Prelude.{◌≡◌, ◌+◌, ◌-◌, ltb};
+ghost use Rattle.std.specs.Prelude.{◌≡◌, ◌+◌, ltb};
 ghost use Rattle.fields.specs.Table.{within, order_used};
 
 pub const SOCIETY: u64 = 7;
@@ -40,45 +40,19 @@ pub const HOUSE_ORDER: u64 = 2;
 pub fn is_within(least: u64, most: u64, x: u64) -> bool
     ensures { result ≡ within least most x }
 {
-    if least <= x {
-        return x <= most;
-    }
-    false
-}
-
-// How far b lies below a, and 0 if it does not.
-pub fn less(a: u64, b: u64) -> u64
-    ensures { result ≡ a - b }
-{
-    if b < a {
-        return a - b;
-    }
-    0
-}
-
-// One fewer, and none fewer than none.
-pub fn fewer(left: u64) -> u64
-    ensures { result ≡ left - 1 }
-{
-    less(left, 1)
+    least <= x && x <= most
 }
 
 // Whether there is another after the one numbered `i` of `n`.
 pub fn has_more(i: u64, n: u64) -> bool
     ensures { result ≡ ltb (i + 1) n }
 {
-    if i < n {
-        return 1 < n - i;
-    }
-    false
+    i < n.saturating_sub(1)
 }
 
 // The order that an order field asks for.
 pub fn order_used(x: u64) -> u64
     ensures { result ≡ order_used x }
 {
-    if x == 0 {
-        return HOUSE_ORDER;
-    }
-    x
+    if x == 0 { HOUSE_ORDER } else { x }
 }

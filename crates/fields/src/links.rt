@@ -1,9 +1,10 @@
 // The links of a job pack: the term count, the terms with their cells rising, and the bound, link after link.
 ghost use Rattle.std.specs.Prelude.{◌≡◌, ◌+◌};
-ghost use Rattle.fields.specs.Table.{after_cell, after_coefficient, links_from, with_least, with_terms};
+ghost use Rattle.fields.specs.Table.{after_cell, after_coefficient, links_from, with_terms};
 
 use crate::limits::has_more;
-use crate::{Field, Step};
+use crate::{Barred, Field, Step};
+use refusals::Refusal;
 
 // The link that a walk stands in: of how many, over how many cells; the terms that are left of it, and the least cell that the next may name (0 after one that does
 // not rise).
@@ -35,31 +36,10 @@ pub fn first_link(n: u64, links: u64) -> Field
 pub fn with_terms(l: Links, x: u64) -> Links
     ensures { result ≡ with_terms l x }
 {
-    let n = l.n;
-    let links = l.links;
-    let link = l.link;
     Links {
-        n,
-        links,
-        link,
         terms: x,
         least: 0,
-    }
-}
-
-fn with_least(l: Links, least: u64) -> Links
-    ensures { result ≡ with_least l least }
-{
-    let n = l.n;
-    let links = l.links;
-    let link = l.link;
-    let terms = l.terms;
-    Links {
-        n,
-        links,
-        link,
-        terms,
-        least,
+        ..l
     }
 }
 
@@ -67,58 +47,37 @@ fn with_least(l: Links, least: u64) -> Links
 pub fn after_cell(l: Links, x: u64) -> Step
     ensures { result ≡ after_cell l x }
 {
-    let n = l.n;
-    let least = l.least;
-    if x < n {
-        if least <= x {
-            let next = x + 1;
-            return Step::Next(Field::Coefficient(with_least(l, next)));
-        }
-        return Step::Next(Field::Coefficient(with_least(l, 0)));
+    if l.n <= x {
+        return Err(Barred::Unallowed);
     }
-    Step::NotAllowed
+    let least = if l.least <= x { x + 1 } else { 0 };
+    Ok(Field::Coefficient(Links { least, ..l }))
 }
 
 // A coefficient 0, or a cell that does not rise, is 5.
 pub fn after_coefficient(l: Links, x: u64) -> Step
     ensures { result ≡ after_coefficient l x }
 {
-    let link = l.link;
-    let terms = l.terms;
-    let n = l.n;
-    let links = l.links;
-    let least = l.least;
-    if x == 0 {
-        return Step::Refused(5, link);
+    if x == 0 || l.least == 0 {
+        return Err(Barred::Other(Refusal::BadTerm(l.link as usize)));
     }
-    if 0 < least {
-        if 1 < terms {
-            return Step::Next(Field::Cell(Links {
-                n,
-                links,
-                link,
-                terms: terms - 1,
-                least,
-            }));
-        }
-        return Step::Next(Field::Bound(l));
+    if 1 < l.terms {
+        let terms = l.terms - 1;
+        return Ok(Field::Cell(Links { terms, ..l }));
     }
-    Step::Refused(5, link)
+    Ok(Field::Bound(l))
 }
 
 pub fn after_bound(l: Links) -> Field
     ensures { result ≡ links_from l.n l.links (l.link + 1) }
 {
-    let link = l.link;
-    let n = l.n;
-    let links = l.links;
-    if has_more(link, links) {
+    if has_more(l.link, l.links) {
+        let link = l.link + 1;
         return Field::TermCount(Links {
-            n,
-            links,
-            link: link + 1,
+            link,
             terms: 0,
             least: 0,
+            ..l
         });
     }
     Field::End

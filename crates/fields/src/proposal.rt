@@ -3,15 +3,15 @@ ghost use Rattle.std.specs.Prelude.{◌≡◌, ◌-◌};
 ghost use Rattle.fields.specs.Table.{values_from, multipliers_from};
 
 use crate::Field;
-use crate::limits::fewer;
 
 pub fn multipliers_from(left: u64) -> Field
     ensures { result ≡ multipliers_from left }
 {
     if left == 0 {
-        return Field::End;
+        Field::End
+    } else {
+        Field::Multiplier(left)
     }
-    Field::Multiplier(left)
 }
 
 // Where a proposal pack begins.
@@ -27,11 +27,11 @@ pub fn values_from(left: u64, links: u64) -> Field
 pub fn after_value(left: u64, links: u64) -> Field
     ensures { result ≡ values_from (left - 1) links }
 {
-    values_from(fewer(left), links)
+    values_from(left.saturating_sub(1), links)
 }
 
 pub fn after_multiplier(left: u64) -> Field
     ensures { result ≡ multipliers_from (left - 1) }
 {
-    multipliers_from(fewer(left))
+    multipliers_from(left.saturating_sub(1))
 }

@@ -1,22 +1,18 @@
 // The shape of a job: its cells in rows and columns, with an order down and an order across. A one-dimensional job has one column. Small numbers are
 // paired (8 times the one and the other) where their tests have just passed.
-ghost use Rattle.std.specs.Prelude.{◌≡◌, ◌/◌};
+ghost use Rattle.std.specs.Prelude.{◌≡◌, ◌/◌, Ok};
 ghost use Rattle.fields.specs.declared.Field.TheVariants.{OrderDown, OrderAcross, SecondConstant};
-ghost use Rattle.fields.specs.declared.Step.TheVariants.{Next};
 ghost use Rattle.fields.specs.Table.{rule, shaped, are_columns, is_order, after_order};
 
 use crate::cells::Cells;
 use crate::limits::{is_within, order_used};
-use crate::{Field, Step};
+use crate::{Barred, Field, Step};
 
 // Whether x is an order for differences along so many cells.
 fn is_order(length: u64, x: u64) -> bool
     ensures { result ≡ is_order length x }
 {
-    if is_within(1, crate::limits::ORDER, x) {
-        return x < length;
-    }
-    false
+    is_within(1, crate::limits::ORDER, x) && x < length
 }
 
 // Order field 5 announces a grid; any other order used has to be less than the count of cells.
@@ -24,12 +20,12 @@ pub fn after_order(n: u64, x: u64) -> Step
     ensures { result ≡ after_order n x }
 {
     if x == crate::limits::GRID {
-        return Step::Next(Field::Rows(n));
+        return Ok(Field::Rows(n));
     }
     let z = order_used(x);
     if is_order(n, z) {
         let want = 8 * z + 1;
-        return Step::Next(Field::Constant(
+        return Ok(Field::Constant(
             Cells {
                 n,
                 row: 9,
@@ -40,31 +36,22 @@ pub fn after_order(n: u64, x: u64) -> Step
             0,
         ));
     }
-    Step::NotAllowed
+    Err(Barred::Unallowed)
 }
 
 // Whether so many rows of x cells are n cells; the product is made only where it cannot pass n.
 fn are_columns(n: u64, rows: u64, x: u64) -> bool
     ensures { result ≡ are_columns n rows x }
 {
-    if x < 2 {
-        return false;
-    }
-    if crate::limits::CELLS < x {
-        return false;
-    }
-    if n / x < rows {
-        return false;
-    }
-    rows * x == n
+    is_within(2, crate::limits::CELLS, x) && rows <= n / x && rows * x == n
 }
 
 pub fn after_columns(n: u64, rows: u64, x: u64) -> Step
-    ensures { result ≡ rule (are_columns n rows x) (Next (OrderDown (shaped n x 0 0) rows)) }
+    ensures { result ≡ rule (are_columns n rows x) (Ok (OrderDown (shaped n x 0 0) rows)) }
 {
     if are_columns(n, rows, x) {
         let row = 8 * x;
-        return Step::Next(Field::OrderDown(
+        return Ok(Field::OrderDown(
             Cells {
                 n,
                 row,
@@ -75,18 +62,18 @@ pub fn after_columns(n: u64, rows: u64, x: u64) -> Step
             rows,
         ));
     }
-    Step::NotAllowed
+    Err(Barred::Unallowed)
 }
 
 pub fn after_down(c: Cells, rows: u64, x: u64) -> Step
-    ensures { result ≡ rule (is_order rows x) (Next (OrderAcross (shaped c.n (c.row / 8) x 0))) }
+    ensures { result ≡ rule (is_order rows x) (Ok (OrderAcross (shaped c.n (c.row / 8) x 0))) }
 {
     let n = c.n;
     let columns = c.row / 8;
     if is_order(rows, x) {
         let row = 8 * columns;
         let want = 8 * x;
-        return Step::Next(Field::OrderAcross(Cells {
+        return Ok(Field::OrderAcross(Cells {
             n,
             row,
             want,
@@ -94,11 +81,11 @@ pub fn after_down(c: Cells, rows: u64, x: u64) -> Step
             cell: 0,
         }));
     }
-    Step::NotAllowed
+    Err(Barred::Unallowed)
 }
 
 pub fn after_across(c: Cells, x: u64) -> Step
-    ensures { result ≡ rule (is_order (c.row / 8) x) (Next (SecondConstant (shaped c.n (c.row / 8) (c.want / 8) x))) }
+    ensures { result ≡ rule (is_order (c.row / 8) x) (Ok (SecondConstant (shaped c.n (c.row / 8) (c.want / 8) x))) }
 {
     let n = c.n;
     let columns = c.row / 8;
@@ -106,7 +93,7 @@ pub fn after_across(c: Cells, x: u64) -> Step
     if is_order(columns, x) {
         let row = 8 * columns + x;
         let want = 8 * down + x;
-        return Step::Next(Field::SecondConstant(Cells {
+        return Ok(Field::SecondConstant(Cells {
             n,
             row,
             want,
@@ -114,5 +101,5 @@ pub fn after_across(c: Cells, x: u64) -> Step
             cell: 0,
         }));
     }
-    Step::NotAllowed
+    Err(Barred::Unallowed)
 }

@@ -15,7 +15,6 @@ use Rattle.numbers.proofs.Clash.{clash}
 use Rattle.whole.proofs.Order.{pos_mono}
 use Rattle.fields.specs.declared.cells.Cells.{Cells}
 use Rattle.fields.specs.declared.Field.TheVariants.{Crude, Weight, Floor, Ceiling, LinkCount}
-use Rattle.fields.specs.declared.Step.TheVariants.{Next, Refused}
 use Rattle.fields.specs.Table.{within, paired, weighed, after_ceiling, step_of}
 use Rattle.fields.proofs.Rows.{within_both}
 use Rattle.jobs.specs.Job.{Job}
@@ -24,6 +23,9 @@ use Rattle.jobs.specs.Allowed.{CellAllowed, positives, rows_held}
 use Rattle.jobs.proofs.Taken.{At, at_place, at_field, Row, row, next_is, plain, here_on}
 use Rattle.jobs.proofs.Weights as W
 use Rattle.jobs.proofs.Weights.{lack_after, want_after, no_more, weighed_inside, weighed_end, full, lacks_less, row_held}
+use Rattle.std.specs.Prelude.{Ok, Err}
+use Rattle.refusals.specs.declared.Refusal.TheVariants.{FloorAbove, TooFewWeights}
+use Rattle.fields.specs.declared.Barred.TheVariants.{Other}
 
 box_of : {a b : ℤ} {x y : ℕ} → a ≡ pos x → b ≡ pos y → x ≤ y → a ≤ℤ b
 box_of e q h = rw (e, q) (pos_mono h)
@@ -59,8 +61,8 @@ module _ (ws : List ℤ) where
       hi = count_at ws p
 
       go : (a b d : Bool) → ltb hi lo ≡ a → ltb (cell + 1) n ≡ b → ltb 0 (paired want lack / 8) ≡ d
-          → (if a then Refused 3 cell else if b then Next (Crude (cell_at want lack column (cell + 1))) else if d then Refused 4 0 else Next (LinkCount n))
-          ≡ Next r.g → High want lack column cell lo p
+          → (if a then Err (Other (FloorAbove cell)) else if b then Ok (Crude (cell_at want lack column (cell + 1))) else if d then Err (Other TooFewWeights) else Ok (LinkCount n))
+          ≡ Ok r.g → High want lack column cell lo p
       go true b d l m w e = clash (cc)
       go false true d l m w e =
           record { box = ltb-false hi lo l; after = another (ltb-true (cell + 1) n m) (at_field (next_is e) r.rest) }

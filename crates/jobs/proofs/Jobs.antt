@@ -12,7 +12,6 @@ use Rattle.std.specs.Prelude.{if◌then◌else◌}
 use Rattle.numbers.proofs.Clash.{clash}
 use Rattle.fields.specs.declared.Field.{Field}
 use Rattle.fields.specs.declared.Field.TheVariants.{Society, Job, Count, Order, Rows, Columns, OrderDown, OrderAcross, SecondConstant, Constant, Tolerance, Crude, LinkCount}
-use Rattle.fields.specs.declared.Step.TheVariants.{Next}
 use Rattle.fields.specs.Table.{rule, order_used, shaped, are_columns, is_order, after_order, links_from, step_of}
 use Rattle.fields.proofs.Rows.{kept, OrderTold, order_told, columns_told}
 use Rattle.jobs.specs.Words.{word_at, count_at, cells_of, is_grid, head_words, rows_of, columns_of, order_of, across_of, second_of, links_of, start_of, job_of}
@@ -23,6 +22,7 @@ use Rattle.jobs.proofs.Places.{head_of_grid, head_of_line, head_some, start_zero
 use Rattle.jobs.proofs.Taken.{At, at_first, at_place, at_field, row, next_is, plain}
 use Rattle.jobs.proofs.Cells.{all_cells}
 use Rattle.jobs.proofs.Links.{AllLinks, all_links}
+use Rattle.std.specs.Prelude.{Ok}
 
 -- the link count and the links
 record Linked (ws : List ℤ) : Type 0 where
@@ -75,13 +75,13 @@ module _ (ws : List ℤ) where
     unfolding step_of
     a_grid c t =
         let n = cells_of ws in
-        let r = row (leb 2) (λ x. Next (Columns n x)) refl refl (λ x. refl) t in
+        let r = row (leb 2) (λ x. Ok (Columns n x)) refl refl (λ x. refl) t in
         let R = count_at ws 4 in
-        let k = row (are_columns n R) (λ x. Next (OrderDown (shaped n x 0 0) R)) refl refl (λ x. refl) (at_field (next_is r.next) r.rest) in
+        let k = row (are_columns n R) (λ x. Ok (OrderDown (shaped n x 0 0) R)) refl refl (λ x. refl) (at_field (next_is r.next) r.rest) in
         let p = with_columns ws g in
-        let d = row (is_order R) (λ x. Next (OrderAcross (shaped n (p.row / 8) x 0))) refl refl (λ x. refl) (at_field (next_is k.next) k.rest) in
+        let d = row (is_order R) (λ x. Ok (OrderAcross (shaped n (p.row / 8) x 0))) refl refl (λ x. refl) (at_field (next_is k.next) k.rest) in
         let q = with_down ws g in
-        let a = row (is_order (q.row / 8)) (λ x. Next (SecondConstant (shaped n (q.row / 8) (q.want / 8) x))) refl refl (λ x. refl) (at_field (next_is d.next) d.rest) in
+        let a = row (is_order (q.row / 8)) (λ x. Ok (SecondConstant (shaped n (q.row / 8) (q.want / 8) x))) refl refl (λ x. refl) (at_field (next_is d.next) d.rest) in
         let m = plain 1 999 (λ x. Constant (with_across ws g) x) refl refl (λ x. refl) (at_field (next_is a.next) a.rest) in
         let columns = columns_told n R (count_at ws 5) k.ok in
         let down = order_told R (count_at ws 6) d.ok in
@@ -113,7 +113,7 @@ module _ (ws : List ℤ) where
       z = order_used (count_at ws 3)
 
       go : {g : Field} → Counted ws 3 → (b : Bool) → is_grid ws ≡ b
-          → (if b then Next (Rows (cells_of ws)) else rule (is_order (cells_of ws) z) (Next (Constant (shaped (cells_of ws) 1 z 1) 0))) ≡ Next g
+          → (if b then Ok (Rows (cells_of ws)) else rule (is_order (cells_of ws) z) (Ok (Constant (shaped (cells_of ws) 1 z 1) 0))) ≡ Ok g
           → At ws g 4 → ShapeRead
       go c true e n t = a_grid e c (at_field (next_is n) t)
       go c false e n t = let r = kept n in a_line e c (order_told (cells_of ws) z r.ok) (at_field (next_is r.next) t)

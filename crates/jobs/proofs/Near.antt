@@ -8,12 +8,11 @@ use Rattle.fields.specs.declared.Field.{Field}
 use Rattle.fields.specs.declared.Field.TheVariants.{Society}
 use Rattle.fields.specs.Table.{values_from}
 use Rattle.fields.proofs.Budget.{budget, budget_values}
-use Rattle.packs.specs.declared.Outcome.{Outcome}
-use Rattle.packs.specs.declared.Outcome.TheVariants.{Done, Refused}
-use Rattle.packs.specs.Reading.{read_from}
+use Rattle.packs.specs.Reading.{Outcome, read_from}
 use Rattle.packs.specs.Writing.{write_from}
 use Rattle.packs.proofs.Near.{Near, read_near, write_near}
 use Rattle.jobs.specs.Packs.{read_job, write_job}
+use Rattle.std.specs.Prelude.{Ok, Err}
 
 pub job_read_near : (s : List ℕ) → Near 20920 (read_job s).outcome
 job_read_near s = read_near Society refl s
@@ -22,8 +21,8 @@ pub job_written_near : (ws : List ℤ) → Near 20920 (write_job ws).outcome
 job_written_near ws = write_near Society refl ws
 
 near_more : {a b : ℕ} (o : Outcome) → a ≤ b → Near a o → Near b o
-near_more (Done n) h l = omega arith
-near_more (Refused number place) h l = (l.0, l.1, omega (arith, l.2))
+near_more (Ok n) h l = omega arith
+near_more (Err r) h l = (l.0, l.1, omega (arith, l.2))
 
 module _ (cells links : ℕ) (c : cells ≤ 120) (l : links ≤ 160) where
   abbrev first : Field

@@ -10,17 +10,16 @@ use lib.ListN.{length, take, drop, length-drop, take-append-drop}
 use lib.Seq.{length-take-le, get_or-drop, get_or-take}
 use Rattle.numbers.specs.Plain.{bytes_of}
 use Rattle.fields.specs.declared.Field.{Field}
-use Rattle.fields.specs.declared.Step.TheVariants.{Next}
 use Rattle.fields.specs.Table.{signed_at, end_at, multipliers_from, values_from, step_of}
-use Rattle.packs.specs.declared.Outcome.TheVariants.{Done}
 use Rattle.packs.specs.Writing.{Written, Fits, on_put, write_from}
 use Rattle.packs.specs.Walking.{packed}
 use Rattle.jobs.specs.Words.{word_at}
 use Rattle.jobs.specs.Allowed.{Upto, Proposed}
 use Rattle.jobs.proofs.Writable.{within_most}
+use Rattle.std.specs.Prelude.{Ok}
 
 -- a word that its field allows is written, and the walk goes on
-on_word : (f g : Field) (x : ℕ) (ws : List ℤ) (at : ℕ) → end_at f ≡ false → signed_at f ≡ false → step_of f x ≡ Next g
+on_word : (f g : Field) (x : ℕ) (ws : List ℤ) (at : ℕ) → end_at f ≡ false → signed_at f ≡ false → step_of f x ≡ Ok g
     → write_from (pos x ∷ ws) f at ≡ on_put (Fits g x) (λ g raw. write_from ws g (at + length (bytes_of raw)))
 unfolding write_from
 on_word f g x ws at e s t = rw (e, s, t)
@@ -29,7 +28,7 @@ on_word f g x ws at e s t = rw (e, s, t)
 record Onward (most : ℕ) (onward : ℕ → Field) : Type 0 where
   pub goes : (left : ℕ) → end_at (onward (suc left)) ≡ false
   pub plain : (left : ℕ) → signed_at (onward (suc left)) ≡ false
-  pub step : (left x : ℕ) → x ≤ most → step_of (onward (suc left)) x ≡ Next (onward left)
+  pub step : (left x : ℕ) → x ≤ most → step_of (onward (suc left)) x ≡ Ok (onward left)
 
 -- where the walk stands after them, and the bytes of them
 record Walked (ws rest : List ℤ) (f g : Field) (at : ℕ) : Type 0 where
@@ -72,7 +71,7 @@ multipliers_onward = record {
   step = λ left x h. let less : suc left - 1 ≡ left = omega arith in rw (ne_eqb (suc left) 0 (omega arith), within_most 0 1000000000 x (omega arith) h, less);
 }
 
-at_the_end : (next : ℕ) → write_from [] (multipliers_from 0) next ≡ record { bytes = []; outcome = Done next }
+at_the_end : (next : ℕ) → write_from [] (multipliers_from 0) next ≡ record { bytes = []; outcome = Ok next }
 unfolding write_from
 at_the_end next = refl
 
@@ -86,13 +85,13 @@ module _ {cells links : ℕ} (ws : List ℤ) (P : Proposed cells links ws) where
   parted : take cells ws ++ (drop cells ws ++ []) ≡ ws
   parted = ap (λ (r : List ℤ). take cells ws ++ r) (append-nil (drop cells ws)) ∙ take-append-drop cells ws
 
-  pub proposal_packed : (n : ℕ) × (write_from ws (values_from cells links) 0 ≡ record { bytes = packed ws; outcome = Done n })
+  pub proposal_packed : (n : ℕ) × (write_from ws (values_from cells links) 0 ≡ record { bytes = packed ws; outcome = Ok n })
   proposal_packed =
       let v = walked (rates_onward links) cells (take cells ws) (drop cells ws ++ []) 0 (length-take-le cells ws (omega (arith, P.count)))
       (λ i h. rw (get_or-take cells ws i (pos 0) h) (P.value i h)) in
       let m = walked multipliers_onward links (drop cells ws) [] v.next (omega (arith, length-drop cells ws, P.count))
       (λ l h. rw (get_or-drop cells ws l (pos 0)) (P.multiplier l h)) in
-      let o : (write_from ws (values_from cells links) 0).outcome ≡ Done m.next =
+      let o : (write_from ws (values_from cells links) 0).outcome ≡ Ok m.next =
       ap (λ (l : List ℤ). (write_from l (values_from cells links) 0).outcome) (sym parted) ∙ v.ends ∙ m.ends ∙ ap (λ (w : Written). w.outcome) (at_the_end m.next) in
       let b : (write_from ws (values_from cells links) 0).bytes ≡ packed ws =
       ap (λ (l : List ℤ). (write_from l (values_from cells links) 0).bytes) (sym parted) ∙ v.bytes ∙ ap (λ (r : List ℕ). packed (take cells ws) ++ r) m.bytes

@@ -7,17 +7,16 @@ use lib.ListN.{length}
 use Rattle.numbers.proofs.Clash.{clash}
 use Rattle.fields.specs.declared.Field.TheVariants.{Society}
 use Rattle.fields.specs.Table.{values_from}
-use Rattle.packs.specs.declared.Outcome.{Outcome}
-use Rattle.packs.specs.declared.Outcome.TheVariants.{Done, Refused}
-use Rattle.packs.specs.Reading.{read_from}
+use Rattle.packs.specs.Reading.{Outcome, read_from}
 use Rattle.jobs.specs.Packs.{read_job, as_six}
 use Rattle.jobs.specs.Promises.{ReadJobsAllowed, ReadJobsLaid, ReadWordsCounted, ReadWordsFew, ReadProposalsProposed}
 use Rattle.jobs.proofs.Steps.{read_whole}
 use Rattle.jobs.proofs.Places.{words_few}
 use Rattle.jobs.proofs.Jobs.{JobRead, job_read}
 use Rattle.jobs.proofs.Proposals.{proposal_read}
+use Rattle.std.specs.Prelude.{Ok, Err}
 
-job_of : (s : List ℕ) (k : ℕ) → (read_job s).outcome ≡ Done k → JobRead (read_job s).words
+job_of : (s : List ℕ) (k : ℕ) → (read_job s).outcome ≡ Ok k → JobRead (read_job s).words
 job_of s k o = job_read (read_whole Society s k o).steps
 
 pub read_jobs_allowed : ReadJobsAllowed
@@ -34,9 +33,9 @@ read_words_few s k o = words_few (read_jobs_laid s k o) (read_jobs_allowed s k o
 
 -- a proposal that ends well is a pack that ends well
 -- a proposal that reads was read whole
-pub six_done : (o : Outcome) (k : ℕ) → as_six o ≡ Done k → o ≡ Done k
-six_done (Done n) k e = e
-six_done (Refused number place) k e = clash (cc)
+pub six_done : (o : Outcome) (k : ℕ) → as_six o ≡ Ok k → o ≡ Ok k
+six_done (Ok n) k e = e
+six_done (Err r) k e = clash (cc)
 
 pub read_proposals_proposed : ReadProposalsProposed
 read_proposals_proposed cells links s k o =

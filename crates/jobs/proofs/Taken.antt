@@ -14,14 +14,13 @@ use Rattle.numbers.proofs.Clash.{clash}
 use Rattle.numbers.proofs.Signs.{signed_most}
 use Rattle.fields.specs.declared.Field.{Field}
 use Rattle.fields.specs.declared.Field.TheVariants.{End}
-use Rattle.fields.specs.declared.Step.{Step}
-use Rattle.fields.specs.declared.Step.TheVariants.{Next}
-use Rattle.fields.specs.Table.{within, within_signed, rule, signed_at, end_at, step_of}
+use Rattle.fields.specs.Table.{Step, within, within_signed, rule, signed_at, end_at, step_of}
 use Rattle.fields.proofs.Rows.{kept, within_both}
 use Rattle.packs.specs.Reading.{word_of}
 use Rattle.jobs.specs.Words.{word_at, count_at}
 use Rattle.jobs.specs.Allowed.{Upto, Counted}
 use Rattle.jobs.proofs.Steps.{Steps, done, go}
+use Rattle.std.specs.Prelude.{Ok}
 
 -- the words from the place p on are steps of the walk from the field f on
 pub record At (ws : List ℤ) (f : Field) (p : ℕ) : Type 0 where
@@ -50,7 +49,7 @@ at_end {ws} {p} t = omega (arith, length-drop p ws, ap length (end_empty t.steps
 pub record Taken (ws : List ℤ) (f : Field) (p : ℕ) : Type 0 where
   pub x : ℕ
   pub g : Field
-  pub step : step_of f x ≡ Next g
+  pub step : step_of f x ≡ Ok g
   pub is : word_at ws p ≡ word_of f x
   pub rest : At ws g (p + 1)
 
@@ -88,7 +87,7 @@ pub record Row (ws : List ℤ) (p : ℕ) (test : ℕ → Bool) (s : ℕ → Step
   pub counted : Counted ws p
   pub ok : test (count_at ws p) ≡ true
   pub g : Field
-  pub next : s (count_at ws p) ≡ Next g
+  pub next : s (count_at ws p) ≡ Ok g
   pub rest : At ws g (p + 1)
 
 pub row : {ws : List ℤ} {f : Field} {p : ℕ} (test : ℕ → Bool) (s : ℕ → Step) → end_at f ≡ false → signed_at f ≡ false
@@ -112,13 +111,13 @@ pub record Plain (ws : List ℤ) (p least most : ℕ) (onward : ℕ → Field) :
   pub some : least ≤ count_at ws p
   pub rest : At ws (onward (count_at ws p)) (p + 1)
 
-pub next_is : {f g : Field} → Next f ≡ Next g → g ≡ f
+pub next_is : {f g : Field} → ◌≡◌ {A = Step} (Ok f) (Ok g) → g ≡ f
 next_is e = cc
 
 pub plain : {ws : List ℤ} {f : Field} {p : ℕ} (least most : ℕ) (onward : ℕ → Field) → end_at f ≡ false → signed_at f ≡ false
-    → ((x : ℕ) → step_of f x ≡ rule (within least most x) (Next (onward x))) → At ws f p → Plain ws p least most onward
+    → ((x : ℕ) → step_of f x ≡ rule (within least most x) (Ok (onward x))) → At ws f p → Plain ws p least most onward
 plain {ws} {p = p} least most onward e u q t =
-    let r = row (within least most) (λ x. Next (onward x)) e u q t in
+    let r = row (within least most) (λ x. Ok (onward x)) e u q t in
     let l = within_both least most (count_at ws p) r.ok in
     record { range = record { natural = r.counted; small = l.1 }; some = l.0; rest = at_field (next_is r.next) r.rest }
 
@@ -128,7 +127,7 @@ pub record SignedRow (ws : List ℤ) (p most : ℕ) (s : ℕ → Step) : Type 0 
   pub is : word_at ws p ≡ signed_of raw
   pub small : nat_abs (word_at ws p) ≤ most
   pub g : Field
-  pub next : s raw ≡ Next g
+  pub next : s raw ≡ Ok g
   pub rest : At ws g (p + 1)
 
 pub signed_row : {ws : List ℤ} {f : Field} {p : ℕ} (most : ℕ) (s : ℕ → Step) → end_at f ≡ false → signed_at f ≡ true

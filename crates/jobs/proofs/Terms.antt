@@ -14,11 +14,13 @@ use Rattle.numbers.proofs.Clash.{clash}
 use Rattle.numbers.proofs.Signs.{signs_written_back, stored_most}
 use Rattle.fields.specs.declared.links.Links.{Links}
 use Rattle.fields.specs.declared.Field.TheVariants.{Cell, Coefficient, Bound}
-use Rattle.fields.specs.declared.Step.TheVariants.{Next, Refused}
 use Rattle.fields.specs.Table.{with_least, after_coefficient, links_from, step_of}
 use Rattle.jobs.specs.Words.{word_at, count_at, cells_of, start_of, job_of}
 use Rattle.jobs.specs.Allowed.{TermAllowed, Counted}
 use Rattle.jobs.proofs.Taken.{At, at_place, at_field, row, next_is, SignedRow, signed_row, here_on}
+use Rattle.std.specs.Prelude.{Ok, Err}
+use Rattle.refusals.specs.declared.Refusal.TheVariants.{BadTerm}
+use Rattle.fields.specs.declared.Barred.TheVariants.{Other}
 
 -- only 0 is stored as 0
 signed_some : (raw : ℕ) → (raw ≡ 0 → ⊥) → 1 ≤ nat_abs (signed_of raw)
@@ -50,7 +52,7 @@ risen {ws} {p} l r = go (eqb r.raw 0) (eqb l.least 0) (ltb 1 l.terms) refl refl 
     some q = rw r.is (signed_some r.raw (eqb-false r.raw 0 q))
 
     go : (a b d : Bool) → eqb r.raw 0 ≡ a → eqb l.least 0 ≡ b → ltb 1 l.terms ≡ d
-        → (if a then Refused 5 l.link else if b then Refused 5 l.link else if d then Next (Cell (fewer l)) else Next (Bound l)) ≡ Next r.g
+        → (if a then Err (Other (BadTerm l.link)) else if b then Err (Other (BadTerm l.link)) else if d then Ok (Cell (fewer l)) else Ok (Bound l)) ≡ Ok r.g
         → Risen ws l p
     go true b d q u m e = clash (cc)
     go false true d q u m e = clash (cc)
@@ -77,7 +79,7 @@ record OneTerm (ws : List ℤ) (l : Links) (p : ℕ) : Type 0 where
 one_term : (ws : List ℤ) (l : Links) (p : ℕ) → At ws (Cell l) p → OneTerm ws l p
 unfolding step_of
 one_term ws l p t =
-    let k = row (λ x. ltb x l.n) (λ x. Next (Coefficient (with_least l (if leb l.least x then x + 1 else 0)))) refl refl (λ x. refl) t in
+    let k = row (λ x. ltb x l.n) (λ x. Ok (Coefficient (with_least l (if leb l.least x then x + 1 else 0)))) refl refl (λ x. refl) t in
     go k.counted k.ok (leb l.least x) refl (at_field (next_is k.next) k.rest)
   where
     x : ℕ
@@ -143,7 +145,7 @@ module _ (ws : List ℤ) (j : ℕ) where
             }
         go (last h t) =
             let onward = links_from l.n l.links (l.link + 1) in
-            let b = signed_row 1000000000 (λ x. Next onward) refl refl (λ x. refl) (at_place (cell_of terms_of) (omega arith) t) in
+            let b = signed_row 1000000000 (λ x. Ok onward) refl refl (λ x. refl) (at_place (cell_of terms_of) (omega arith) t) in
             record {
               each = here_on (term_read (λ u. absurd (omega arith))) (λ i a c. absurd (omega arith));
               first = o.rises;

@@ -11,9 +11,7 @@ use lib.ListN.{length, get_or-eq_default}
 use Rattle.whole.proofs.Fits.{small_fits}
 use Rattle.fields.specs.declared.Field.TheVariants.{Society}
 use Rattle.fields.specs.Table.{values_from}
-use Rattle.packs.specs.declared.Outcome.{Outcome}
-use Rattle.packs.specs.declared.Outcome.TheVariants.{Done, Refused}
-use Rattle.packs.specs.Reading.{Ran}
+use Rattle.packs.specs.Reading.{Outcome, Ran}
 use Rattle.packs.specs.Promises.{read_as}
 use Rattle.packs.specs.Writing.{Written, write_from}
 use Rattle.packs.proofs.Trips.{writing_back, reading_back, refusing_alike}
@@ -24,6 +22,7 @@ use Rattle.jobs.specs.Promises.{AllowedJobsWritten, AllowedProposalsWritten, Job
 use Rattle.jobs.proofs.Readings.{six_done}
 use Rattle.jobs.proofs.Writable.{job_passes}
 use Rattle.jobs.proofs.Packable.{proposal_packed}
+use Rattle.std.specs.Prelude.{Ok, Err}
 
 pub allowed_jobs_written : AllowedJobsWritten
 allowed_jobs_written ws L A = job_passes ws L A
@@ -64,15 +63,15 @@ proposed_small {cells} {links} {ws} P i = go (ltb i cells) (ltb i (cells + links
         subst (λ (z : ℤ). nat_abs z ≤ 1000000000) (sym q) (omega arith)
 
 pub proposed_read_back : (cells links : ℕ) (ws : List ℤ) → Proposed cells links ws
-    → read_proposal cells links (write_proposal cells links ws).bytes ≡ record { words = ws; outcome = Done (length ws) }
+    → read_proposal cells links (write_proposal cells links ws).bytes ≡ record { words = ws; outcome = Ok (length ws) }
 proposed_read_back cells links ws P =
     let w = allowed_proposals_written cells links ws P in
     proposals_read_back cells links ws (λ i. small_fits (word_at ws i) (proposed_small P i) (lit< tt)) w.0 w.1
 
 -- 6 is the same on both sides
 six_alike : (ws : List ℤ) (o : Outcome) → as_six (read_as ws o) ≡ read_as ws (as_six o)
-six_alike ws (Done n) = refl
-six_alike ws (Refused number place) = refl
+six_alike ws (Ok n) = refl
+six_alike ws (Err r) = refl
 
 pub proposals_refused_alike : ProposalsRefusedAlike
 proposals_refused_alike cells links ws s p =

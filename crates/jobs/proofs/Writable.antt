@@ -18,11 +18,8 @@ use Rattle.fields.specs.declared.cells.Cells.{Cells}
 use Rattle.fields.specs.declared.links.Links.{Links}
 use Rattle.fields.specs.declared.Field.{Field}
 use Rattle.fields.specs.declared.Field.TheVariants.{Society, Job, Count, Order, Rows, Columns, OrderDown, OrderAcross, SecondConstant, Constant, Tolerance, Crude, Weight, Floor, Ceiling, LinkCount, TermCount, Cell, Coefficient, Bound}
-use Rattle.fields.specs.declared.Step.TheVariants.{Next, Refused}
-use Rattle.fields.specs.Table.{within, order_used, paired, shaped, weighed, links_from, signed_at, end_at, step_of}
+use Rattle.fields.specs.Table.{Step, within, order_used, paired, shaped, weighed, links_from, signed_at, end_at, step_of}
 use Rattle.whole.proofs.Order.{pos_le}
-use Rattle.packs.specs.declared.Outcome.TheVariants.{Done}
-use Rattle.packs.specs.declared.words.Raw.TheVariants.{Number}
 use Rattle.packs.specs.Writing.{raw_of, write_from}
 use Rattle.jobs.specs.Words.{word_at, count_at, cells_of, is_grid, head_words, rows_of, columns_of, order_of, across_of, second_of, links_of, start_of, job_of}
 use Rattle.jobs.specs.Allowed.{Allowed, GridAllowed, ShapeAllowed, TermAllowed, positives, rows_held, Laid}
@@ -31,6 +28,9 @@ use Rattle.jobs.proofs.Shapes.{shape_at, rows_line, order_line, second_line, sha
 use Rattle.jobs.proofs.Weights as W
 use Rattle.jobs.proofs.Weights.{lack_after, want_after, no_more, pair_first, weighed_inside, weighed_end, full, lacks_less, held_row}
 use Rattle.jobs.specs.Packs.{write_job}
+use Rattle.std.specs.Prelude.{Some, Ok, Err}
+use Rattle.refusals.specs.declared.Refusal.TheVariants.{TooFewWeights}
+use Rattle.fields.specs.declared.Barred.TheVariants.{Other}
 
 pub within_most : (least most x : ℕ) → least ≤ x → x ≤ most → within least most x ≡ true
 within_most least most x l h = rw (le-leb least x l, le-leb x most h)
@@ -41,18 +41,18 @@ record Stands (ws : List ℤ) (first : Field) (k : ℕ) (f : Field) : Type 0 whe
   pub at : ℕ
   pub ends : (write_from ws first 0).outcome ≡ (write_from (drop k ws) f at).outcome
 
-one_word : (ws : List ℤ) (k : ℕ) (f g : Field) (at raw : ℕ) → k < length ws → end_at f ≡ false → raw_of f (word_at ws k) ≡ Number raw → step_of f raw ≡ Next g
+one_word : (ws : List ℤ) (k : ℕ) (f g : Field) (at raw : ℕ) → k < length ws → end_at f ≡ false → raw_of f (word_at ws k) ≡ Some raw → step_of f raw ≡ Ok g
     → (write_from (drop k ws) f at).outcome ≡ (write_from (drop (k + 1) ws) g (at + length (bytes_of raw))).outcome
 unfolding write_from
 one_word ws k f g at raw h e r s = rw (drop-cons ws k (pos 0) h, e, r, s, add-one k)
 
 module _ {ws : List ℤ} {first f g : Field} {k : ℕ} where
   -- a word that goes on
-  on : Stands ws first k f → k < length ws → end_at f ≡ false → (raw : ℕ) → raw_of f (word_at ws k) ≡ Number raw → step_of f raw ≡ Next g → Stands ws first (k + 1) g
+  on : Stands ws first k f → k < length ws → end_at f ≡ false → (raw : ℕ) → raw_of f (word_at ws k) ≡ Some raw → step_of f raw ≡ Ok g → Stands ws first (k + 1) g
   on w h e raw r s = record { at = w.at + length (bytes_of raw); ends = w.ends ∙ one_word ws k f g w.at raw h e r s }
 
   -- a word that is stored as it is
-  plain : Stands ws first k f → k < length ws → end_at f ≡ false → signed_at f ≡ false → word_at ws k ≡ pos (count_at ws k) → step_of f (count_at ws k) ≡ Next g
+  plain : Stands ws first k f → k < length ws → end_at f ≡ false → signed_at f ≡ false → word_at ws k ≡ pos (count_at ws k) → step_of f (count_at ws k) ≡ Ok g
       → Stands ws first (k + 1) g
   plain w h e u c s = on w h e (count_at ws k) (rw (u, c)) s
 
@@ -194,7 +194,7 @@ module _ (ws : List ℤ) (L : Laid ws) (A : Allowed (job_of ws)) where
 
   -- the cell i, after whose weight d is wanted
   cell_on : (c : Cells) (want lack column i : ℕ) → i < n → weighed c (weight_of i) ≡ cell_at want lack column i → At (H + 4 * i) (Crude c) → (g : Field)
-      → (if ltb (i + 1) n then Next (Crude (cell_at want lack column (i + 1))) else if ltb 0 (paired want lack / 8) then Refused 4 0 else Next (LinkCount n)) ≡ Next g
+      → (if ltb (i + 1) n then Ok (Crude (cell_at want lack column (i + 1))) else if ltb 0 (paired want lack / 8) then Err (Other TooFewWeights) else Ok (LinkCount n)) ≡ Ok g
       → At (H + 4 * (i + 1)) g
   unfolding step_of
   cell_on c want lack column i h q w g s =
@@ -285,7 +285,7 @@ module _ (ws : List ℤ) (L : Laid ws) (A : Allowed (job_of ws)) where
 
     -- its coefficient
     coefficient_on : (r m y : ℕ) → m + suc r ≡ t → 1 ≤ y → At (S + 2 + 2 * m) (Coefficient (link_at l (suc r) y)) → (g : Field)
-        → (if ltb 1 (suc r) then Next (Cell (link_at l (suc r - 1) y)) else Next (Bound (link_at l (suc r) y))) ≡ Next g → At (S + 1 + 2 * (m + 1)) g
+        → ◌≡◌ {A = Step} (if ltb 1 (suc r) then Ok (Cell (link_at l (suc r - 1) y)) else Ok (Bound (link_at l (suc r) y))) (Ok g) → At (S + 1 + 2 * (m + 1)) g
     unfolding step_of
     coefficient_on r m y e up w g s =
         let c = word_at ws (S + 2 + 2 * m) in
@@ -327,11 +327,11 @@ module _ (ws : List ℤ) (L : Laid ws) (A : Allowed (job_of ws)) where
   links_on (suc k) l e w =
       links_on k (l + 1) (omega arith) (stands_at (ap (start_of ws) (sym (add-one l))) (link_on l (omega arith) w))
 
-  at_the_end : (at : ℕ) → (write_from [] (links_from n links links) at).outcome ≡ Done at
+  at_the_end : (at : ℕ) → (write_from [] (links_from n links links) at).outcome ≡ Ok at
   unfolding write_from
   at_the_end at = rw (le-ltb links links (omega arith))
 
-  pub job_passes : (k : ℕ) × ((write_job ws).outcome ≡ Done k)
+  pub job_passes : (k : ℕ) × ((write_job ws).outcome ≡ Ok k)
   unfolding step_of rows_held
   job_passes =
       let room = head in

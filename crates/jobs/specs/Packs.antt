@@ -3,12 +3,13 @@ use Rattle.std.specs.Prelude.{ℕ, List, [], ltb, ℤ}
 use Rattle.std.specs.Prelude.{if◌then◌else◌}
 use Rattle.fields.specs.declared.Field.TheVariants.{Society}
 use Rattle.fields.specs.Table.{values_from}
-use Rattle.packs.specs.declared.Outcome.{Outcome}
-use Rattle.packs.specs.declared.Outcome.TheVariants.{Done, Refused}
-use Rattle.packs.specs.Reading.{Ran, read_from}
+use Rattle.packs.specs.Reading.{Outcome, Ran, read_from}
 use Rattle.packs.specs.Writing.{Written, write_from}
 use Rattle.jobs.specs.Job.{Job}
 use Rattle.jobs.specs.Words.{job_of}
+use Rattle.std.specs.Prelude.{Ok, Err}
+use Rattle.refusals.specs.declared.Refusal.TheVariants.{BadProposal, NoRoom}
+use Rattle.refusals.specs.Refusals.{place_of}
 
 abbrev pub read_job : List ℕ → Ran
 read_job s = read_from Society s
@@ -22,16 +23,16 @@ write_job ws = write_from ws Society 0
 
 -- "Output room comes last, when the needed length is known": a job's words, handed out to a lender with room for so many; a refusal hands out none.
 abbrev pub handed_out : (room : ℕ) → List ℤ → Outcome → Ran
-handed_out room ws (Done k) = if ltb room k then record { words = []; outcome = Refused 13 k } else record { words = ws; outcome = Done k }
-handed_out room ws (Refused number place) = record { words = []; outcome = Refused number place }
+handed_out room ws (Ok k) = if ltb room k then record { words = []; outcome = Err (NoRoom k) } else record { words = ws; outcome = Ok k }
+handed_out room ws (Err r) = record { words = []; outcome = Err r }
 
 abbrev pub read_job_into : (room : ℕ) → List ℕ → Ran
 read_job_into room s = handed_out room (read_job s).words (read_job s).outcome
 
 -- "6: proposal pack: unreadable, spare bytes, not allowed: offset as above"
 abbrev pub as_six : Outcome → Outcome
-as_six (Done k) = Done k
-as_six (Refused number place) = Refused 6 place
+as_six (Ok k) = Ok k
+as_six (Err r) = Err (BadProposal (place_of r))
 
 -- "Proposal pack: n values, then one multiplier per link, nothing after."
 abbrev pub read_proposal : (cells links : ℕ) → List ℕ → Ran

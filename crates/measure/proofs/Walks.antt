@@ -27,7 +27,6 @@ use Rattle.tally.proofs.Locals.{read, rate_read, multiplier_read}
 use Rattle.tally.proofs.Terms.{link_small, true_t}
 use Rattle.tally.proofs.Totals.{Runs, not_lt_le, lt_not_le}
 use Rattle.tally.proofs.Tallies.{tally_starts, tallies_call, tallies_next}
-use Rattle.measure.specs.declared.links.Walked.TheVariants.{Unmet, Held}
 use Rattle.measure.specs.Gap.{link_sum}
 use Rattle.measure.specs.Given.{Given, LinkAt, Linked, Scattering, Walking}
 use Rattle.measure.specs.Running.{sum_at, bound_at, part_at, Added, walk_of}
@@ -35,6 +34,8 @@ use Rattle.measure.specs.OnWords.{multiplier_on, holds_on, link_term_on, held_on
 use Rattle.measure.proofs.Places.{link_at_lem}
 use Rattle.measure.proofs.Lowest.{Passed, passed_start, passed_next, lowest_all, lowest_at}
 use Rattle.measure.proofs.Scattered.{added_none, added_by, added_then, part_small, coefficient_read}
+use Rattle.std.specs.Prelude.{Ok, Err}
+use Rattle.refusals.specs.declared.Refusal.TheVariants.{BrokenLink}
 
 -- ---- the sum of a link that starts at s
 
@@ -185,7 +186,7 @@ module _ {ws ps : List ℤ} {n : ℕ} {parts₀ : List ℤ} (W : Walking ws ps n
       found : lt_z (read b) (read x) ≡ true → held_on ws ps ≡ l
       found e = lowest_at (holds_on ws ps) (links_of ws) l h I.passed (fails e)
 
-      pub walk_broken : lt_z (read b) (read x) ≡ true → Unmet 8 l ≡ walk_on ws ps
+      pub walk_broken : lt_z (read b) (read x) ≡ true → Err (BrokenLink l) ≡ walk_on ws ps
       unfolding walk_of
       walk_broken e = rw (found e, lt-ltb l (links_of ws) h)
 
@@ -232,9 +233,9 @@ module _ {ws ps : List ℤ} {n : ℕ} {parts₀ : List ℤ} (W : Walking ws ps n
     all : held_on ws ps ≡ links_of ws
     all = lowest_all (holds_on ws ps) (links_of ws) (subst (λ (x : ℕ). Passed (holds_on ws ps) x) e I.passed)
 
-    pub walk_held : Held tally ≡ walk_on ws ps
+    pub walk_held : Ok tally ≡ walk_on ws ps
     unfolding walk_of
-    walk_held = rw (all, le-ltb (links_of ws) (links_of ws) (N.le_refl (links_of ws))) (ap Held (I.tally_is ∙ ap (tallied_of (job_of ws).tolerance (pos 0) (link_term_on ws ps)) e))
+    walk_held = rw (all, le-ltb (links_of ws) (links_of ws) (N.le_refl (links_of ws))) (ap Ok (I.tally_is ∙ ap (tallied_of (job_of ws).tolerance (pos 0) (link_term_on ws ps)) e))
 
     pub walk_held_parts : Added (parts_on ws ps (held_on ws ps)) parts₀ parts
     walk_held_parts = subst (λ (k : ℕ). Added (parts_on ws ps k) parts₀ parts) (e ∙ sym all) I.parts_added

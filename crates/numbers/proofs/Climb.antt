@@ -11,38 +11,43 @@ use borrow.Author.Tests.{lt-ltb, le-ltb, ltb-true, ltb-false, eq-eqb, ne_eqb, eq
 use lib.Dec.{ltb, eqb}
 use lib.ListN.{length, get_or, drop}
 use Rattle.numbers.specs.declared.plain.Number.{Number}
-use Rattle.numbers.specs.declared.plain.Number.TheVariants.{Value, Unreadable}
-use Rattle.std.specs.Prelude.{if◌then◌else◌}
-use Rattle.numbers.specs.Plain.{number_in, number_at, joined, last_group}
+use Rattle.std.specs.Prelude.{Option, Some, None, if◌then◌else◌}
+use Rattle.numbers.specs.Plain.{found, number_in, number_at, joined, last_group}
 use Rattle.numbers.proofs.Reading.{at_end, at_byte}
 
 -- what later groups make, on g lower groups that come to `value`
-abbrev under : (g value : ℕ) → Number → Number
+abbrev under : (g value : ℕ) → Option Number → Option Number
 under zero value r = r
-under (suc g) value (Value v next) = if eqb v 0 then Unreadable else Value (v * 128 ^ suc g + value) next
-under (suc g) value Unreadable = Unreadable
+under (suc g) value (Some n) = if eqb n.value 0 then None else found (n.value * 128 ^ suc g + value) n.next
+under (suc g) value None = None
 
-under_none : (g value : ℕ) → under g value Unreadable ≡ Unreadable
+under_none : (g value : ℕ) → under g value None ≡ None
 under_none zero value = refl
 under_none (suc g) value = refl
 
 -- one group more
-under_joined : (g value b : ℕ) (r : Number) → value < 128 ^ g → under g value (joined b r) ≡ under (suc g) (value + b % 128 * 128 ^ g) r
-under_joined g value b Unreadable h = under_none g value
-under_joined g value b (Value v next) h = go (eqb v 0) refl
+under_joined : (g value b : ℕ) (r : Option Number) → value < 128 ^ g → under g value (joined b r) ≡ under (suc g) (value + b % 128 * 128 ^ g) r
+under_joined g value b None h = under_none g value
+under_joined g value b (Some n) h = go (eqb v 0) refl
   where
-    higher : (g : ℕ) → value < 128 ^ g → (v ≡ 0 → ⊥) → under g value (Value (v * 128 + b % 128) next) ≡ Value (v * 128 ^ suc g + (value + b % 128 * 128 ^ g)) next
-    higher zero h f = ap (λ (x : ℕ). Value x next) (omega arith)
+    v : ℕ
+    v = n.value
+
+    next : ℕ
+    next = n.next
+
+    higher : (g : ℕ) → value < 128 ^ g → (v ≡ 0 → ⊥) → under g value (found (v * 128 + b % 128) next) ≡ found (v * 128 ^ suc g + (value + b % 128 * 128 ^ g)) next
+    higher zero h f = ap (λ (x : ℕ). found x next) (omega arith)
     higher (suc g) h f =
         let some : eqb (v * 128 + b % 128) 0 ≡ false = ne_eqb (v * 128 + b % 128) 0 (omega arith) in
-        rw some (ap (λ (x : ℕ). Value x next) (omega (arith, N.add-mul (v * 128) (b % 128) (128 ^ suc g), raised (128 ^ suc g), ap (λ (p : ℕ). v * p) (N.pow-suc 128 (suc g)))))
+        rw some (ap (λ (x : ℕ). found x next) (omega (arith, N.add-mul (v * 128) (b % 128) (128 ^ suc g), raised (128 ^ suc g), ap (λ (p : ℕ). v * p) (N.pow-suc 128 (suc g)))))
       where
         raised : (p : ℕ) → v * 128 * p ≡ v * (p * 128)
         raised p = N.mul_assoc v 128 p ∙ ap (λ (x : ℕ). v * x) (N.mul_comm 128 p)
 
     go : (t : Bool) → eqb v 0 ≡ t
-        → under g value (if t then Unreadable else Value (v * 128 + b % 128) next)
-        ≡ (if t then Unreadable else Value (v * 128 ^ suc g + (value + b % 128 * 128 ^ g)) next)
+        → under g value (if t then None else found (v * 128 + b % 128) next)
+        ≡ (if t then None else found (v * 128 ^ suc g + (value + b % 128 * 128 ^ g)) next)
     go true e = under_none g value
     go false e = higher g h (eqb-false v 0 e)
 
@@ -57,10 +62,10 @@ pub climb_start : (s : List ℕ) (at : ℕ) → at ≤ length s → Climb s at a
 climb_start s at h = record { few = omega arith; inside = h; scale_is = refl; below = omega arith; same = refl }
 
 module _ {s : List ℕ} {at i value scale g : ℕ} (c : Climb s at i value scale g) where
-  pub climb_short : length s ≤ i → Unreadable ≡ number_at s at
+  pub climb_short : length s ≤ i → None ≡ number_at s at
   climb_short h = sym (c.same ∙ ap (under g value) (at_end (9 - g) s i h) ∙ under_none g value)
 
-  pub climb_long : 9 ≤ g → Unreadable ≡ number_at s at
+  pub climb_long : 9 ≤ g → None ≡ number_at s at
   unfolding number_in
   climb_long h =
       let z : 9 - g ≡ 0 = omega (arith, c.few) in
@@ -76,7 +81,7 @@ module _ {s : List ℕ} {at i value scale g : ℕ} (c : Climb s at i value scale
 
     module _ (h : i < length s) where
       left_is : number_in (9 - g) (drop i s) i
-          ≡ (if ltb (get_or s i 0) 128 then Value (get_or s i 0) (i + 1) else joined (get_or s i 0) (number_in (9 - g - 1) (drop (i + 1) s) (i + 1)))
+          ≡ (if ltb (get_or s i 0) 128 then found (get_or s i 0) (i + 1) else joined (get_or s i 0) (number_in (9 - g - 1) (drop (i + 1) s) (i + 1)))
       left_is = at_byte (9 - g) s i (λ e. omega arith) h
 
       group_part : get_or s i 0 % 128 * scale ≤ 127 * scale
@@ -104,16 +109,16 @@ module _ {s : List ℕ} {at i value scale g : ℕ} (c : Climb s at i value scale
 
           -- the groups above the lowest, and the lowest alone
           top : (p : ℕ) → 1 < p → (t : Bool) → ltb 0 b ≡ t
-              → (if eqb b 0 then Unreadable else Value (b * p + value) (i + 1))
-              ≡ (if t then Value (b * p + value) (i + 1) else if ltb 1 p then Unreadable else Value value (i + 1))
+              → (if eqb b 0 then None else found (b * p + value) (i + 1))
+              ≡ (if t then found (b * p + value) (i + 1) else if ltb 1 p then None else found value (i + 1))
           top p h true e = rw (ne_eqb b 0 (λ z. omega (arith, ltb-true 0 b e)))
           top p h false e = rw (eq-eqb b 0 (omega (arith, ltb-false 0 b e)), lt-ltb 1 p h)
 
-          alone : (t : Bool) → ltb 0 b ≡ t → Value b (i + 1) ≡ (if t then Value (b * 1 + 0) (i + 1) else Value 0 (i + 1))
-          alone true e = ap (λ (x : ℕ). Value x (i + 1)) (omega arith)
-          alone false e = ap (λ (x : ℕ). Value x (i + 1)) (omega (arith, ltb-false 0 b e))
+          alone : (t : Bool) → ltb 0 b ≡ t → found b (i + 1) ≡ (if t then found (b * 1 + 0) (i + 1) else found 0 (i + 1))
+          alone true e = ap (λ (x : ℕ). found x (i + 1)) (omega arith)
+          alone false e = ap (λ (x : ℕ). found x (i + 1)) (omega (arith, ltb-false 0 b e))
 
-          go : (g : ℕ) → scale ≡ 128 ^ g → value < scale → under g value (Value b (i + 1)) ≡ last_group b value scale (i + 1)
+          go : (g : ℕ) → scale ≡ 128 ^ g → value < scale → under g value (found b (i + 1)) ≡ last_group b value scale (i + 1)
           go zero e l =
               let one : scale ≡ 1 = e in
               let none : value ≡ 0 = omega arith in

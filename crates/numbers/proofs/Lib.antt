@@ -7,3 +7,4 @@ pub mod Climb
 pub mod Inverse
 pub mod Signs
 pub mod Stores
+pub mod Copies

@@ -3,61 +3,47 @@ ghost use Rattle.std.specs.Prelude.{◌≡◌, ◌+◌, ◌^◌, ◌≤◌, ◌<
 ghost use Rattle.std.proofs.lemmas.List.Edits.{sets};
 ghost use Rattle.numbers.specs.Plain.{number_at, last_group, bytes_of};
 
-// What reading a number finds: its value with the offset after it, or none in the shortest form.
+// A number that was read, with the offset after it.
 #[derive(Clone, Copy)]
-pub enum Number {
-    Value { value: u64, next: usize },
-    Unreadable,
-}
-
-fn wide(x: u8) -> u64
-    ensures { result ≡ x }
-{
-    x as u64
+pub struct Number {
+    pub value: u64,
+    pub next: usize,
 }
 
 // The last group b of a number, after groups that come to `value`, of which the next would count `scale` times.
-fn last(b: u64, value: u64, scale: u64, next: usize) -> Number
+fn last(b: u64, value: u64, scale: u64, next: usize) -> Option<Number>
     requires { (b < 128) × ((value < scale) × (scale ≤ 2 ^ 56)) }
     ensures { result ≡ last_group b value scale next }
 {
     if 0 < b {
-        return Number::Value {
-            value: b * scale + value,
-            next,
-        };
+        let value = b * scale + value;
+        return Some(Number { value, next });
     }
     if 1 < scale {
-        return Number::Unreadable;
+        return None;
     }
-    Number::Value { value, next }
+    Some(Number { value, next })
 }
 
-// The number that starts at `at`.
-pub fn number_at(s: &[u8], at: usize) -> Number
+// The number that starts at `at`; none where no number stands there in its shortest form.
+pub fn number_at(s: &[u8], at: usize) -> Option<Number>
     ensures { result ≡ number_at s.now at }
 {
     if s.len() < at {
-        return Number::Unreadable;
+        return None;
     }
-    let mut i = at;
     let mut value: u64 = 0;
     let mut scale: u64 = 1;
-    let mut groups: usize = 0;
-    while groups < 9 {
-        if s.len() <= i {
-            return Number::Unreadable;
-        }
-        let b = wide(s[i]);
+    for groups in 0..9 {
+        let i = at + groups;
+        let b = u64::from(*s.get(i)?);
         if b < 128 {
             return last(b, value, scale, i + 1);
         }
         value += b % 128 * scale;
         scale *= 128;
-        i += 1;
-        groups += 1;
     }
-    Number::Unreadable
+    None
 }
 
 // How many bytes `x` takes, group by group.

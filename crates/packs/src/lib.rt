@@ -6,10 +6,3 @@ pub mod reading;
 pub mod walking;
 pub mod words;
 pub mod writing;
-
-// How a walk ends: done, with the count of words read or of bytes written, or refused with a number and a place.
-#[derive(Clone, Copy)]
-pub enum Outcome {
-    Done(usize),
-    Refused(u64, usize),
-}

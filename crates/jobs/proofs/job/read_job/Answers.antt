@@ -5,10 +5,7 @@ use mathlib.Core.Path.{refl, sym, ◌∙◌}
 use Rattle.jobs.proofs.job.read_job.Goals as goal
 
 pub hand_out-requires : goal.hand_out-requires
-hand_out-requires c = scratch_room c.args.pack.now (sym c.read-r.ensures.0 ∙ c.in-Done.is) c.read-r.ensures.1
+hand_out-requires c = scratch_room c.args.pack.now (sym c.read.ensures.0 ∙ c.in_ok-k.was) c.read.ensures.1
 
-pub returns-in-Done : goal.returns-in-Done
-returns-in-Done c = rw (← scratch_handed c.args.pack.now (sym c.read-r.ensures.0 ∙ c.in-Done.is) c.read-r.ensures.1 (length c.args.out.now)) c.hand_out.ensures
-
-pub returns-in-Refused : goal.returns-in-Refused
-returns-in-Refused c = rw (sym c.read-r.ensures.0 ∙ c.in-Refused.is) (refl, refl)
+pub returns : goal.returns
+returns c = rw (← scratch_handed c.args.pack.now (sym c.read.ensures.0 ∙ c.in_ok-k.was) c.read.ensures.1 (length c.args.out.now)) c.hand_out.ensures

@@ -11,15 +11,15 @@ total_of-cells-requires c = judge_totalling c.requires c.smoothed-rough.ensures.
 
 pub returns-then-g-t : goal.returns-then-g-t
 returns-then-g-t c = (
-  judged_accepts c.requires c.smoothed-rough.ensures.1 c.total_of-cells.ensures c.tolerance_of-t.ensures c.loss-f.ensures c.if-g-t.true,
+  judged_accepts c.requires c.smoothed-rough.ensures.1 c.total_of-cells.ensures c.tolerance_of-t.ensures c.loss-loss.ensures c.if-g-t.true,
   c.smoothed-rough.ensures.1,
 )
 
-pub place_of-place-requires : goal.place_of-place-requires
-place_of-place-requires c = judge_led c.requires c.smoothed-rough.ensures.1 c.total_of-cells.ensures c.tolerance_of-t.ensures
+pub place_of-requires : goal.place_of-requires
+place_of-requires c = judge_led c.requires c.smoothed-rough.ensures.1 c.total_of-cells.ensures c.tolerance_of-t.ensures
 
 pub returns : goal.returns
 returns c = (
-  judged_refuses c.requires c.smoothed-rough.ensures.1 c.total_of-cells.ensures c.tolerance_of-t.ensures c.if-g-t.false c.place_of-place.ensures,
+  judged_refuses c.requires c.smoothed-rough.ensures.1 c.total_of-cells.ensures c.tolerance_of-t.ensures c.if-g-t.false c.place_of.ensures,
   c.smoothed-rough.ensures.1,
 )

@@ -5,11 +5,11 @@ use native.Mathlib.Nat.{mul-le-mul}
 use Prim.Native.Nat.{◌≤◌}
 use Rattle.numbers.proofs.plain.last.Goals as goal
 
-pub overflow_mul-result : goal.overflow_mul-result
-overflow_mul-result c = let l : c.args.b ≤ 127 = omega arith in omega (arith, mul-le-mul l c.requires.1.1)
+pub overflow_mul-value : goal.overflow_mul-value
+overflow_mul-value c = let l : c.args.b ≤ 127 = omega arith in omega (arith, mul-le-mul l c.requires.1.1)
 
-pub overflow_add-result : goal.overflow_add-result
-overflow_add-result c = let l : c.args.b ≤ 127 = omega arith in omega (arith, mul-le-mul l c.requires.1.1)
+pub overflow_add-value : goal.overflow_add-value
+overflow_add-value c = let l : c.args.b ≤ 127 = omega arith in omega (arith, mul-le-mul l c.requires.1.1)
 
 pub returns-then-b-gt0 : goal.returns-then-b-gt0
 returns-then-b-gt0 c = rw (lt-ltb _ _ c.if-b-gt0.true)

@@ -10,28 +10,19 @@ use borrow.Author.Rules.{rules}
 use Prim.Native.Nat.{◌-◌}
 use Rattle.packs.proofs.writing.put_all.Goals as goal
 
-pub loop-i-init : goal.loop-i-init
-loop-i-init c = putting_start _ _ c.requires
-
-pub offset_bounds-numbers-i : goal.offset_bounds-numbers-i
-offset_bounds-numbers-i c = omega (arith, c.well_formed.0.1, c.loop-i-test.true)
+pub loop-x-init : goal.loop-x-init
+loop-x-init c = putting_start _ _ c.requires
 
 pub put-at-requires : goal.put-at-requires
-put-at-requires c = let fits : SFits w64 (get_or c.args.numbers.now c.loop-i.i (pos 0)) = search rules in
-    putting_room c.loop-i.invariant c.loop-i-test.true _ (c.size_of.ensures ∙ ap nat_abs (to_z-of_z fits))
+put-at-requires c = let fits : SFits w64 (get_or c.args.numbers.now c.loop-x.x-index (pos 0)) = search rules in
+    putting_room c.loop-x.invariant c.loop-x-test.true _ (c.size_of.ensures ∙ ap nat_abs (to_z-of_z fits))
 
-pub overflow_add-i : goal.overflow_add-i
-overflow_add-i c = omega (arith, c.loop-i-test.true)
-
-pub loop-i-smaller : goal.loop-i-smaller
-loop-i-smaller c = omega (arith, c.loop-i-test.true)
-
-pub loop-i-preserved : goal.loop-i-preserved
-loop-i-preserved c = let fits : SFits w64 (get_or c.args.numbers.now c.loop-i.i (pos 0)) = search rules in
-    putting_go c.loop-i.invariant c.loop-i-test.true _ (c.size_of.ensures ∙ ap nat_abs (to_z-of_z fits)) _ _ c.put-at.ensures.0 c.put-at.ensures.1
+pub loop-x-preserved : goal.loop-x-preserved
+loop-x-preserved c = let fits : SFits w64 (get_or c.args.numbers.now c.loop-x.x-index (pos 0)) = search rules in
+    putting_go c.loop-x.invariant c.loop-x-test.true _ (c.size_of.ensures ∙ ap nat_abs (to_z-of_z fits)) _ _ c.put-at.ensures.0 c.put-at.ensures.1
 
 pub shape_of-out : goal.shape_of-out
-shape_of-out c = c.loop-i.invariant.long
+shape_of-out c = c.loop-x.invariant.long
 
 pub returns : goal.returns
-returns c = putting_end c.loop-i.invariant c.loop-i-test.false
+returns c = putting_end c.loop-x.invariant c.loop-x-test.false

@@ -31,18 +31,6 @@ use Rattle.measure.proofs.Packed.{both_checked, job_part, proposal_part, unread_
 use Rattle.terms.specs.Listing.{end_of, list_for, terms_of}
 use Rattle.terms.specs.Steps.{entries_on}
 
--- ---- all places, or 13
-
-module _ (ws ps : List ℤ) {n count : ℕ} (en : n ≡ cells_of ws) (ec : count ≡ links_of ws) (out : List ℤ) where
-  abbrev whole : ℕ
-  whole = 3 * (cells_of ws + links_of ws)
-
-  whole_is : 3 * (n + count) ≡ whole
-  whole_is = ap₂ (λ (a b : ℕ). 3 * (a + b)) en ec
-
-  abbrev handed : Bool → Ran
-  handed o = if o then record { words = []; outcome = Refuses 13 whole } else record { words = entries_on ws ps (cells_of ws + links_of ws); outcome = Done whole }
-
 -- ---- as the check refuses, 9 excepted
 
 judged_done : (ws ps : List ℤ) (count : ℕ) → end_of count (judged_on ws ps) ≡ Done count

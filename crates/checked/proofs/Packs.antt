@@ -9,6 +9,7 @@ use lib.ListN.{length, replicate}
 use lib.Seq.{sets}
 use Rattle.std.specs.Prelude.{if◌then◌else◌}
 use Rattle.fields.specs.Table.{grid_field}
+use Rattle.packs.specs.Reading.{Outcome}
 use Rattle.jobs.specs.Words.{count_at, cells_of, head_words, links_of, job_of}
 use Rattle.jobs.specs.Allowed.{Counts}
 use Rattle.jobs.specs.Packs.{read_job, read_proposal}
@@ -21,7 +22,6 @@ use Rattle.checked.specs.Answers.{accepted}
 use Rattle.checked.specs.Given.{Rates, Wordlike, Given}
 use Rattle.checked.proofs.Values.{scratch_length, same_word, same_numbers}
 use Rattle.checked.proofs.Sound.{Packed, accepted_read}
-use Rattle.packs.specs.Reading.{Outcome}
 
 module _ (job proposal : List ℕ) (F G : ℤ) (e : check_of job proposal ≡ accepting F G)
     (scratch : List ℤ) (stored : scratch ≡ sets (replicate 2092 (pos 0)) 0 (read_job job).words)

@@ -7,6 +7,8 @@ use native.Mathlib.Omega.{arith}
 use lib.IntN.{nat_abs}
 use lib.ListN.{length, drop, length-drop}
 use lib.Seq.{length-take-le}
+use Rattle.std.specs.Prelude.{Ok, Err}
+use Rattle.packs.specs.Reading.{Outcome}
 use Rattle.jobs.specs.Job.{Job}
 use Rattle.jobs.specs.Words.{job_of}
 use Rattle.jobs.specs.Allowed.{Allowed, Laid, Proposed}
@@ -16,8 +18,6 @@ use Rattle.measure.specs.Check.{Verdict, check_of, on_read, proposal_verdict}
 use Rattle.checked.specs.Checked.{values_of, multipliers_of}
 use Rattle.checked.specs.Answers.{accepted}
 use Rattle.checked.proofs.Values.{length_map}
-use Rattle.std.specs.Prelude.{Ok, Err}
-use Rattle.packs.specs.Reading.{Outcome}
 
 -- an accepted verdict on what was read comes of a reading that is done
 pub read_done : (o : Outcome) (v : Verdict) → accepted (on_read o v) ≡ true → (k : ℕ) × (o ≡ Ok k) × (accepted v ≡ true)

@@ -33,17 +33,6 @@ unfolding after_pass
 start_is j e = ap {B = State} (λ (v : List Float). state v (replicate 160 zero64)) e
 
 module _ (room given : ℕ) (j : Job) {before : ℕ} (e : before ≡ passes_before j given) where
-  pub first_written : before < given → {s : State} → s ≡ after_pass j (min (suc (passes_before j given)) given) → (out : List ℕ) {out' : List ℕ} {o : Outcome} → Leaves (written_after room j s) out o out'
-      → {a : Offer} → a ≡ counting (before + 1) o → Ends (on_first room given j (passes_before j given)) out a out'
-  first_written h {s} q out l ea =
-      let b = passes_before j given in
-      let under : b < given = omega (arith, e) in
-      let m : min (suc b) given ≡ suc b = omega arith in
-      let p : before + 1 ≡ suc b = omega (arith, e) in
-      let reached : s ≡ after_pass j (suc b) = q ∙ ap {B = State} (after_pass j) m in
-      rw (lt-ltb b given under)
-      (ea ∙ ap₂ counting p (l.0 ∙ ap {B = Outcome} (λ (s : State). (written_after room j s).outcome) reached), l.1 ∙ ap (λ (s : State). sets out 0 (written_after room j s).bytes) reached)
-
   pub none_accepted : given ≤ before → refused 14 given ≡ on_first room given j (passes_before j given)
   none_accepted h =
       let b = passes_before j given in

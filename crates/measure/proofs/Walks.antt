@@ -9,7 +9,6 @@ use native.Mathlib.Numerals.{add-one}
 use borrow.Author.Tests.{lt-ltb, le-ltb}
 use lib.Dec.{lit<, leb→le}
 use lib.IntN.{ℤ, pos, negsuc, nat_abs, ◌+ℤ◌, ◌-ℤ◌, ◌*ℤ◌}
-use lib.ListN.{length}
 use lib.Signed.{le_z, lt_z, le_z_yes, lt_z_yes, ≤ℤ_refl}
 use mir.Syntax.{w64}
 use mir.Val.{SFits, to_z}
@@ -114,9 +113,6 @@ module _ {ws ps : List ℤ} (G : Given ws ps) {n l s : ℕ} (en : n ≡ cells_of
 
   pub here_linked : Linked ws ps s
   here_linked = record { link = here_link; proposed = G.proposed }
-
-  pub here_inside : n + l < length ps
-  here_inside = omega (arith, en, h, G.proposed.count)
 
   pub here_multiplier : read (word_at ps (n + l)) ≡ multiplier_on ws ps l
   here_multiplier = ap (λ (x : ℕ). read (word_at ps (x + l))) en ∙ multiplier_read (G.proposed.multiplier l h)

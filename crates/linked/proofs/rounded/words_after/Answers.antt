@@ -1,4 +1,4 @@
-use mathlib.Core.Path.{◌≡◌, sym, ap, ◌∙◌}
+use mathlib.Core.Path.{sym, ap, ◌∙◌}
 use Prim.Native.Nat.{◌+◌, ◌-◌}
 use native.Mathlib.Omega.{arith}
 use lib.Dec.{lit<}
@@ -8,36 +8,9 @@ use lib.Ieee.{nan}
 use Rattle.whole.proofs.Fits.{gives, small_fits}
 use Rattle.house.specs.Filled.{filled}
 use Rattle.house.proofs.Fills.{filled_more, filled_done}
-use Rattle.passes.proofs.Passing.{cells_most, links_most}
 use Rattle.linked.proofs.Words.{multiplier_small}
 use Rattle.linked.proofs.rounded.words_after.Invariants.{multipliers}
 use Rattle.linked.proofs.rounded.words_after.Goals as goal
-
-pub overflow_add-count : goal.overflow_add-count
-overflow_add-count c = omega (arith, cells_most c.requires, links_most c.requires)
-
-pub values_into-requires : goal.values_into-requires
-values_into-requires c = (c.requires.known, c.requires.n_is, omega (arith, cells_most c.requires))
-
-pub loop-at-init : goal.loop-at-init
-loop-at-init c = let a = c.args in
-    let e : a.n + a.links - a.n ≡ a.links = omega arith in
-    rw e
-
-pub overflow_sub-made : goal.overflow_sub-made
-overflow_sub-made c = omega arith
-
-pub offset_bounds-y-made : goal.offset_bounds-y-made
-offset_bounds-y-made c = omega (arith, cells_most c.requires, links_most c.requires)
-
-pub bounds-y-made : goal.bounds-y-made
-bounds-y-made c = omega (arith, cells_most c.requires, links_most c.requires)
-
-pub offset_bounds-made-at : goal.offset_bounds-made-at
-offset_bounds-made-at c = omega (arith, cells_most c.requires, links_most c.requires)
-
-pub bounds-made-at : goal.bounds-made-at
-bounds-made-at c = omega (arith, cells_most c.requires, links_most c.requires)
 
 pub loop-at-preserved : goal.loop-at-preserved
 loop-at-preserved c = let a = c.args in

@@ -5,7 +5,7 @@ use lib.IntN.{ℤ}
 use lib.ListN.{get_or}
 use lib.Ieee.{Float, nan}
 use Rattle.linked.specs.Proposal.{multiplier_word}
-use Prim.Native.Nat.{ℕ, ◌-◌, ◌≤◌}
+use Prim.Native.Nat.{ℕ, ◌-◌}
 use Rattle.house.specs.Filled.{filled}
 use Rattle.linked.proofs.rounded.words_after.Given as goal
 

@@ -1,18 +1,9 @@
 use mathlib.Core.Path.{◌≡◌}
 use native.Mathlib.Omega.{arith}
 use Rattle.jobs.specs.Words.{job_of}
-use Rattle.measure.proofs.Lowest.{passed_start, passed_next}
-use Rattle.linked.proofs.Searching.{counted, pass_given, rejects, passed_is, rejects_is, found, found_state, none_found, none_state, one_more}
+use Rattle.measure.proofs.Lowest.{passed_next}
+use Rattle.linked.proofs.Searching.{rejects, passed_is, rejects_is, found, found_state, none_found, none_state, one_more}
 use Rattle.linked.proofs.search.search.Goals as goal
-
-pub loop-p-init : goal.loop-p-init
-loop-p-init c = (c.requires.starts_there, passed_start (rejects (job_of c.args.words.now)))
-
-pub pass-requires : goal.pass-requires
-pass-requires c = pass_given c.requires
-
-pub accepts-requires : goal.accepts-requires
-accepts-requires c = counted c.requires
 
 pub returns-then-accepts : goal.returns-then-accepts
 returns-then-accepts c = let j = job_of c.args.words.now in

@@ -1,6 +1,5 @@
 -- After p passes none of them is accepted, and values and multipliers are those of the sequence.
 use mathlib.Core.Path.{◌≡◌}
-use Prim.Native.Nat.{◌-◌, ◌≤◌}
 use Rattle.jobs.specs.Words.{job_of}
 use Rattle.measure.proofs.Lowest.{Passed}
 use Rattle.passes.specs.Hildreth.{after_pass}

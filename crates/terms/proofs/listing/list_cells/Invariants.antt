@@ -1,6 +1,5 @@
 -- The words of the cells passed stand at the head.
 use mathlib.Core.Path.{◌≡◌}
-use Prim.Native.Nat.{◌-◌, ◌≤◌}
 use lib.ListN.{length}
 use lib.Seq.{sets}
 use Rattle.terms.specs.Steps.{entries_on}

@@ -1,6 +1,6 @@
 -- Behind the cells stand the words of the links passed, and s is where the next one starts.
 use mathlib.Core.Path.{◌≡◌}
-use Prim.Native.Nat.{◌+◌, ◌-◌, ◌≤◌}
+use Prim.Native.Nat.{◌+◌}
 use lib.ListN.{length}
 use Rattle.jobs.specs.Words.{start_of}
 use Rattle.terms.specs.Steps.{Longer}

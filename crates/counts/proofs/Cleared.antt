@@ -8,8 +8,7 @@ use lib.Seq.{length-take-le, take_at, drop_at, drop-drop, take-append-le, drop-a
 use borrow.Rule.Slice.PartMut.{put_mid, mid_of}
 use Rattle.slots.specs.Slots.{slot_words}
 use Rattle.slots.proofs.Stored.{put_next, mid_next}
-use Rattle.counts.specs.declared.Row.TheVariants.{Right}
-use Rattle.counts.specs.Counts.{societies, all_slots, shelf_words, count_in, slots_below, slots_of, test_row, row_in, start_in, rest_of, cleared}
+use Rattle.counts.specs.Counts.{societies, all_slots, shelf_words, count_in, slots_below, slots_of, passed, test_row, row_in, start_in, rest_of, cleared}
 use Rattle.counts.proofs.Below.{below_apart}
 use Rattle.counts.proofs.Tests.{right_allotted}
 
@@ -25,7 +24,7 @@ drop_zeros k n h =
     ap (λ (m : ℕ). drop k (replicate {A = ℕ} m 0)) (sym e) ∙ ap (drop k) (sym (replicate-append-replicate {A = ℕ} k (n - k) 0)) ∙ drop_at (replicate k 0) (replicate (n - k) 0) k (length-replicate {A = ℕ} k 0)
 
 -- ---- a shelf cleared with a row that is right
-module _ (row : List ℕ) (len : length row ≡ societies) (e : test_row row ≡ Right) (xs : List ℕ) (long : length xs ≡ shelf_words) where
+module _ (row : List ℕ) (len : length row ≡ societies) (e : test_row row ≡ passed) (xs : List ℕ) (long : length xs ≡ shelf_words) where
   abbrev zeros : List ℕ
   zeros = replicate (slot_words * slots_of row) 0
 

@@ -4,11 +4,10 @@
 
 ghost use Rattle.std.specs.Prelude.{◌≡◌, ◌+◌, ◌*◌, ◌<◌, ◌≤◌, length, [], ◌∷◌};
 ghost use Rattle.slots.specs.Slots.{slot_words};
-ghost use Rattle.counts.specs.declared.Row.TheVariants.{Right};
-ghost use Rattle.counts.specs.declared.Tested.TheVariants.{Passed, Refused};
-ghost use Rattle.counts.specs.Counts.{societies, shelf_words, count_in, slots_below, is_wrong, lowest_wrong, test_total, test_row, on_row, test_shelf, row_in, start_in, Ready, cleared};
+ghost use Rattle.counts.specs.Counts.{societies, shelf_words, count_in, slots_below, is_wrong, lowest_wrong, passed, test_total, test_row, test_length, test_shelf, row_in, start_in, Ready, cleared};
 ghost use Rattle.counts.specs.Given.{Counts};
 
+use refusals::Refusal;
 use slots::SLOT_WORDS;
 
 // The societies, the most slots of one and of all, and the words of a shelf.
@@ -19,20 +18,6 @@ const MOST_SLOTS: u32 = 16;
 const ALL_SLOTS: usize = 32;
 
 const SHELF_WORDS: usize = 9192;
-
-// Whether a row of counts is allowed: it is, or it is wrong at a place.
-#[derive(Clone, Copy)]
-pub enum Row {
-    Right,
-    Wrong(usize),
-}
-
-// Whether a call on a shelf may go on: it may, or it is refused with a number and a place.
-#[derive(Clone, Copy)]
-pub enum Tested {
-    Passed,
-    Refused(u64, u64),
-}
 
 // Where a society's span starts and ends, and how many slots it has.
 #[derive(Clone, Copy)]
@@ -66,57 +51,51 @@ fn slots_below(row: &[u32], s: usize) -> usize
 }
 
 // The total of a row whose every count is 1 to 16.
-fn test_total(row: &[u32]) -> Row
+fn test_total(row: &[u32]) -> Result<(), Refusal>
     requires { Counts row.now societies }
     ensures { result ≡ test_total row.now }
 {
-    if slots_below(row, SOCIETIES) <= ALL_SLOTS {
-        Row::Right
-    } else {
-        Row::Wrong(SOCIETIES)
+    if ALL_SLOTS < slots_below(row, SOCIETIES) {
+        return Err(Refusal::CountsNotAllowed(SOCIETIES));
     }
+    Ok(())
 }
 
 // Whether a row of counts is allowed.
-fn test_row(row: &[u32]) -> Row
+fn test_row(row: &[u32]) -> Result<(), Refusal>
     requires { length row.now ≡ societies }
     ensures { result ≡ test_row row.now }
 {
-    match lowest_wrong(row) {
-        Some(society) => Row::Wrong(society),
-        None => test_total(row),
+    if let Some(society) = lowest_wrong(row) {
+        return Err(Refusal::CountsNotAllowed(society));
     }
+    test_total(row)
 }
 
-// The test of counts as that of a shelf that has all its words.
-fn test_counts(row: &[u32]) -> Tested
-    requires { length row.now ≡ societies }
-    ensures { result ≡ on_row (test_row row.now) Passed (λ place. Refused 22 place) }
+// Whether a shelf has all its words.
+fn test_length(shelf: &[u32]) -> Result<(), Refusal>
+    ensures { result ≡ test_length shelf.now }
 {
-    match test_row(row) {
-        Row::Right => Tested::Passed,
-        Row::Wrong(place) => Tested::Refused(22, place as u64),
+    if shelf.len() != SHELF_WORDS {
+        return Err(Refusal::NoRoom(SHELF_WORDS));
     }
+    Ok(())
 }
 
 // Whether a society's call on a shelf may go on: its length, then its leading row.
-pub fn test_shelf(shelf: &[u32]) -> Tested
+pub fn test_shelf(shelf: &[u32]) -> Result<(), Refusal>
     ensures { result ≡ test_shelf (row_in shelf.now) shelf.now }
 {
-    if shelf.len() != SHELF_WORDS {
-        return Tested::Refused(13, SHELF_WORDS as u64);
-    }
-    test_counts(&shelf[..SOCIETIES])
+    test_length(shelf)?;
+    test_row(&shelf[..SOCIETIES])
 }
 
 // Whether a clearing with those counts may go on: the shelf's length, then the counts.
-pub fn test_clearing(shelf: &[u32], counts: &[u32; 8]) -> Tested
+pub fn test_clearing(shelf: &[u32], counts: &[u32; 8]) -> Result<(), Refusal>
     ensures { result ≡ test_shelf (row_in counts.now) shelf.now }
 {
-    if shelf.len() != SHELF_WORDS {
-        return Tested::Refused(13, SHELF_WORDS as u64);
-    }
-    test_counts(counts)
+    test_length(shelf)?;
+    test_row(counts)
 }
 
 // The span of a society, which has so many slots.
@@ -136,7 +115,7 @@ pub fn span_of(shelf: &[u32], society: usize) -> Span
 
 // The row becomes the counts, their spans zeros, and the rest stays.
 pub fn clear_spans(shelf: &mut [u32], counts: &[u32])
-    requires { (length shelf.old ≡ shelf_words) × (length counts.now ≡ societies) × (test_row counts.now ≡ Right) }
+    requires { (length shelf.old ≡ shelf_words) × (length counts.now ≡ societies) × (test_row counts.now ≡ passed) }
     ensures { shelf.new ≡ cleared counts.now shelf.old }
 {
     let slots = slots_below(counts, SOCIETIES);

@@ -1,0 +1,1 @@
+-- No law of its own: both definitions compute.

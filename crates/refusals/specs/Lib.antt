@@ -1,0 +1,2 @@
+-- The numbers and places of refusals.
+pub mod Refusals

@@ -2,6 +2,8 @@
 use Rattle.std.specs.Prelude.{ℕ, Bool, true, false, List, [], ◌++◌, nat_abs, length, drop}
 use Rattle.measure.specs.declared.check.Verdict.{Verdict}
 use Rattle.measure.specs.declared.check.Verdict.TheVariants.{Accepted, Refused}
+use Rattle.refusals.specs.declared.Refusal.{Refusal}
+use Rattle.refusals.specs.Refusals.{number_of, place_of}
 use Rattle.checked.specs.declared.Answer.{Answer}
 
 -- a call's answer, and the values that it hands out
@@ -11,6 +13,9 @@ pub record Reply : Type 0 where
 
 abbrev pub refusal : ℕ → ℕ → Reply
 refusal number place = record { answer = record { number = number; place = place; loss = 0; gap = 0 }; values = [] }
+
+abbrev pub refused : Refusal → Reply
+refused r = refusal (number_of r) (place_of r)
 
 -- number 0 and place 0: nothing was written to an output
 abbrev pub done : Reply

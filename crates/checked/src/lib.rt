@@ -3,8 +3,10 @@
 
 ghost use Rattle.std.specs.Prelude.{◌≡◌, ◌≤◌, ◌<◌, length};
 ghost use Rattle.jobs.specs.Words.{count_at};
+ghost use Rattle.checked.specs.Answers.{refused};
 
 use numbers::zigzag::size_of;
+use refusals::{Refusal, number_of, place_of};
 
 // What a call answers: number, place, F and G.
 #[derive(Clone, Copy)]
@@ -25,6 +27,13 @@ pub fn plain(number: u64, place: u64) -> Answer
         loss: 0,
         gap: 0,
     }
+}
+
+// The answer of a refusal.
+pub fn refused(r: Refusal) -> Answer
+    ensures { result ≡ (refused r).answer }
+{
+    plain(number_of(r), place_of(r) as u64)
 }
 
 // The count that stands at `at`: a word of 32 bits at most.

@@ -1,8 +1,6 @@
 -- The same for the calls on a shelf, from any words.
 use Rattle.std.proofs.Common.{◌≡◌, ℕ, ◌+◌, ◌*◌, ◌≤◌, Bool, true, false, cond, eqb, ltb, leb, ◌⊎◌, List, length, drop, nat_abs, refl, inl, inr, arith, length-take, ltb-true, eqb-true}
 use Rattle.std.specs.Prelude.{if◌then◌else◌}
-use Rattle.packs.specs.declared.Outcome.{Outcome}
-use Rattle.packs.specs.declared.Outcome.TheVariants.{Done, Refused as Refuses}
 use Rattle.packs.proofs.Near.{Near}
 use Rattle.jobs.specs.Job.{Job}
 use Rattle.jobs.specs.Words.{job_of}
@@ -10,9 +8,7 @@ use Rattle.jobs.specs.Allowed.{Allowed}
 use Rattle.jobs.specs.Packs.{read_job}
 use Rattle.jobs.proofs.Near.{job_read_near}
 use Rattle.jobs.proofs.Readings.{read_jobs_allowed}
-use Rattle.measure.specs.declared.check.Verdict.{Verdict}
-use Rattle.measure.specs.declared.check.Verdict.TheVariants.{Accepted, Refused}
-use Rattle.measure.specs.Check.{values_of, multipliers_of, verdict_for}
+use Rattle.measure.specs.Check.{Verdict, accepting, values_of, multipliers_of, verdict_for}
 use Rattle.std.specs.Prelude.{Option, Some, None}
 use Rattle.slots.specs.Slots.{head_size, values_end, lowest, has_job, at_slot}
 use Rattle.std.specs.Prelude.{Ok, Err}
@@ -26,6 +22,8 @@ use Rattle.shelf.specs.Fetched.{most_value, most_multiplier, lowest_above, or_si
 use Rattle.shelf.specs.Calls.{Own, Call, keep, fetch, forget, own, clear, laid_said, said}
 use Rattle.numbers.proofs.Both.{both}
 use Rattle.bench.proofs.Small.{Small, verdict_small, check_small}
+use Rattle.refusals.specs.declared.Refusal.TheVariants.{BadProposal}
+use Rattle.packs.specs.Reading.{Outcome}
 
 refusal_small : (number place : ℕ) → number ≤ 31 → place ≤ 20920 → Small (refusal number place).answer
 refusal_small number place h l = record { number = h; place = l }
@@ -34,7 +32,7 @@ refusal_small number place h l = record { number = h; place = l }
 six_small : (first most : ℕ) (numbers : List ℕ) (later : Verdict) → first ≤ 127 → length numbers ≤ 160 → Small (answer_of later) → Small (answer_of (or_six first most numbers later))
 six_small first most numbers later h n l = go (ltb (lowest_above most numbers) (length numbers)) refl
   where
-    go : (t : Bool) → ltb (lowest_above most numbers) (length numbers) ≡ t → Small (answer_of (if t then Refused 6 (first + lowest_above most numbers) else later))
+    go : (t : Bool) → ltb (lowest_above most numbers) (length numbers) ≡ t → Small (answer_of (if t then Err (BadProposal (first + lowest_above most numbers)) else later))
     go true e = record { number = omega arith; place = omega (arith, ltb-true (lowest_above most numbers) (length numbers) e) }
     go false e = l
 
@@ -46,8 +44,8 @@ kept_small j A v y h k =
     (six_small values_end most_multiplier y last (omega arith) k (verdict_small j A (values_of (proposal_of v y)) (multipliers_of j.cells (proposal_of v y))))
 
 handed_small : (room : ℕ) (v : List ℕ) (w : Verdict) → length v ≤ 120 → Small (answer_of w) → Small (handed room v w).answer
-handed_small room v (Refused number place) h s = record { number = s.number; place = s.place }
-handed_small room v (Accepted F G) h s = go (leb (length v) room)
+handed_small room v (Err r) h s = record { number = s.number; place = s.place }
+handed_small room v (Ok f) h s = go (leb (length v) room)
   where
     go : (t : Bool) → Small (cond t (record { answer = record { number = 0; place = length v; loss = nat_abs F; gap = nat_abs G }; values = v }) (refusal 13 (length v))).answer
     go true = record { number = omega arith; place = omega arith }
@@ -81,8 +79,8 @@ unfolding fetch_reply
 fetch_small l job room shelf = go (read_job job).outcome refl (job_read_near job)
   where
     go : (o : Outcome) → (read_job job).outcome ≡ o → Near 20920 o → Small (on_job o (fetch_from l (job_of (read_job job).words) room shelf)).answer
-    go (Done k) e h = in_small l.words (l.count (job_of (read_job job).words).society) (job_of (read_job job).words) (read_jobs_allowed job k e) room (span_of l (job_of (read_job job).words).society shelf)
-    go (Refuses number place) e h = record { number = omega (arith, h.1); place = h.2 }
+    go (Ok k) e h = in_small l.words (l.count (job_of (read_job job).words).society) (job_of (read_job job).words) (read_jobs_allowed job k e) room (span_of l (job_of (read_job job).words).society shelf)
+    go (Err r) e h = record { number = omega (arith, h.1); place = h.2 }
 
 forget_small : (w c job : ℕ) (s : List ℕ) → Small (forget_reply w c job s).answer
 unfolding forget_reply

@@ -9,14 +9,13 @@ use lib.ListN.{length, replicate}
 use lib.Seq.{sets}
 use Rattle.std.specs.Prelude.{if◌then◌else◌}
 use Rattle.fields.specs.Table.{grid_field}
-use Rattle.packs.specs.declared.Outcome.{Outcome}
+use Rattle.packs.specs.Reading.{Outcome}
 use Rattle.jobs.specs.Words.{count_at, cells_of, head_words, links_of, job_of}
 use Rattle.jobs.specs.Allowed.{Counts}
 use Rattle.jobs.specs.Packs.{read_job, read_proposal}
 use Rattle.jobs.proofs.Counts.{order_counts}
 use Rattle.jobs.proofs.Readings.{read_words_few}
-use Rattle.measure.specs.declared.check.Verdict.TheVariants.{Accepted}
-use Rattle.measure.specs.Check.{check_of}
+use Rattle.measure.specs.Check.{accepting, check_of}
 use Rattle.measure.specs.Opening.{if_read, proposal_words}
 use Rattle.checked.specs.Checked.{taken_from, values_of, multipliers_of}
 use Rattle.checked.specs.Answers.{accepted}
@@ -24,7 +23,7 @@ use Rattle.checked.specs.Given.{Rates, Wordlike, Given}
 use Rattle.checked.proofs.Values.{scratch_length, same_word, same_numbers}
 use Rattle.checked.proofs.Sound.{Packed, accepted_read}
 
-module _ (job proposal : List ℕ) (F G : ℤ) (e : check_of job proposal ≡ Accepted F G)
+module _ (job proposal : List ℕ) (F G : ℤ) (e : check_of job proposal ≡ accepting F G)
     (scratch : List ℤ) (stored : scratch ≡ sets (replicate 2092 (pos 0)) 0 (read_job job).words)
     (rates : List ℤ) (read : rates ≡ sets (replicate 280 (pos 0)) 0 (proposal_words job proposal)) where
   abbrev ws : List ℤ

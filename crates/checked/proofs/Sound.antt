@@ -7,31 +7,30 @@ use native.Mathlib.Omega.{arith}
 use lib.IntN.{nat_abs}
 use lib.ListN.{length, drop, length-drop}
 use lib.Seq.{length-take-le}
-use Rattle.packs.specs.declared.Outcome.{Outcome}
-use Rattle.packs.specs.declared.Outcome.TheVariants.{Done, Refused as Refuses}
+use Rattle.std.specs.Prelude.{Ok, Err}
+use Rattle.packs.specs.Reading.{Outcome}
 use Rattle.jobs.specs.Job.{Job}
 use Rattle.jobs.specs.Words.{job_of}
 use Rattle.jobs.specs.Allowed.{Allowed, Laid, Proposed}
 use Rattle.jobs.specs.Packs.{read_job, read_proposal}
 use Rattle.jobs.proofs.Readings.{read_jobs_allowed, read_jobs_laid, read_proposals_proposed}
-use Rattle.measure.specs.declared.check.Verdict.{Verdict}
-use Rattle.measure.specs.Check.{check_of, on_read, proposal_verdict}
+use Rattle.measure.specs.Check.{Verdict, check_of, on_read, proposal_verdict}
 use Rattle.checked.specs.Checked.{values_of, multipliers_of}
 use Rattle.checked.specs.Answers.{accepted}
 use Rattle.checked.proofs.Values.{length_map}
 
 -- an accepted verdict on what was read comes of a reading that is done
-pub read_done : (o : Outcome) (v : Verdict) → accepted (on_read o v) ≡ true → (k : ℕ) × (o ≡ Done k) × (accepted v ≡ true)
-read_done (Done k) v e = (k, refl, e)
-read_done (Refuses number place) v e = absurd (true≢false (sym e))
+pub read_done : (o : Outcome) (v : Verdict) → accepted (on_read o v) ≡ true → (k : ℕ) × (o ≡ Ok k) × (accepted v ≡ true)
+read_done (Ok k) v e = (k, refl, e)
+read_done (Err r) v e = absurd (true≢false (sym e))
 
 -- what the check has read where it accepts
 pub record Packed (job proposal : List ℕ) : Type 0 where
   pub allowed : Allowed (job_of (read_job job).words)
   pub laid : Laid (read_job job).words
   pub proposed : Proposed (job_of (read_job job).words).cells (job_of (read_job job).words).links (read_proposal (job_of (read_job job).words).cells (job_of (read_job job).words).links proposal).words
-  pub job_done : (k : ℕ) × ((read_job job).outcome ≡ Done k)
-  pub proposal_done : (k : ℕ) × ((read_proposal (job_of (read_job job).words).cells (job_of (read_job job).words).links proposal).outcome ≡ Done k)
+  pub job_done : (k : ℕ) × ((read_job job).outcome ≡ Ok k)
+  pub proposal_done : (k : ℕ) × ((read_proposal (job_of (read_job job).words).cells (job_of (read_job job).words).links proposal).outcome ≡ Ok k)
 
 module _ (job proposal : List ℕ) where
   abbrev j : Job

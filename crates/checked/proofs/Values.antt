@@ -6,10 +6,6 @@ use native.Mathlib.Omega.{arith}
 use lib.IntN.{ℤ, pos, nat_abs}
 use lib.ListN.{length, take, drop, get_or, replicate, length-replicate, length-drop}
 use lib.Seq.{sets, sets-eq, get_or-drop, take-append-le, drop-append-le}
-use lib.Dec.{lit<}
-use mir.Syntax.{w64}
-use mir.Val.{to_z, of_z}
-use Rattle.whole.proofs.Fits.{small_fits, gives}
 use Rattle.jobs.specs.Words.{word_at}
 use Rattle.jobs.proofs.Places.{zeros_at}
 use Rattle.measure.proofs.Packed.{lent_length}
@@ -36,10 +32,6 @@ numbers_append a n xs ys h =
     ap (λ (m : List ℕ). take n (drop a m)) (map_append nat_abs xs ys)
     ∙ ap (take n) (drop-append-le a (map nat_abs xs) (map nat_abs ys) (omega arith))
     ∙ take-append-le n (drop a (map nat_abs xs)) (map nat_abs ys) (rw length-drop (omega arith))
-
--- a small number in a signed local is that number
-pub word_read : (z : ℤ) → nat_abs z ≤ 4294967295 → nat_abs (to_z w64 (of_z w64 z)) ≡ nat_abs z
-word_read z h = ap (λ (y : ℤ). nat_abs y) (gives refl (small_fits z h (lit< tt)))
 
 -- ---- zeros
 past_end : (xs zs : List ℤ) → ((i : ℕ) → word_at zs i ≡ pos 0) → (i : ℕ) → word_at (xs ++ zs) i ≡ word_at xs i

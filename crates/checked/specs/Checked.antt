@@ -4,8 +4,7 @@ use Rattle.std.specs.Prelude.{ℕ, List, map, ℤ, nat_abs, take, drop}
 use Rattle.jobs.specs.Job.{Job}
 use Rattle.jobs.specs.Words.{job_of}
 use Rattle.jobs.specs.Packs.{read_job, read_proposal}
-use Rattle.measure.specs.declared.check.Verdict.{Verdict}
-use Rattle.measure.specs.Check.{check_of}
+use Rattle.measure.specs.Check.{Verdict, check_of}
 
 pub record Checked : Type 0 where
   pub verdict : Verdict

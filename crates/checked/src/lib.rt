@@ -22,14 +22,14 @@ pub fn plain(number: u64, place: u64) -> Answer
     ensures { result ≡ record { number = number; place = place; loss = 0; gap = 0 } }
 {
     Answer {
-        number: number,
-        place: place,
+        number,
+        place,
         loss: 0,
         gap: 0,
     }
 }
 
-// The answer of a refusal.
+// A refusal's number and place.
 pub fn refused(r: Refusal) -> Answer
     ensures { result ≡ (refused r).answer }
 {

@@ -9,8 +9,6 @@ use native.Mathlib.Omega.{arith}
 use lib.Dec.{eqb, leb}
 use lib.ListN.{length, replicate, length-append, length-replicate, replicate-append-replicate}
 use borrow.Author.Tests.{leb-true, eqb-true, eqb-false}
-use Rattle.packs.specs.declared.Outcome.{Outcome}
-use Rattle.packs.specs.declared.Outcome.TheVariants.{Done, Refused as Refuses}
 use Rattle.jobs.specs.Words.{job_of}
 use Rattle.jobs.specs.Packs.{read_job}
 use Rattle.jobs.proofs.Readings.{read_jobs_allowed}
@@ -36,6 +34,8 @@ use Rattle.claims.proofs.Every.{all_kept, all_removed}
 use Rattle.claims.proofs.Tables.{few_kept, few_removed}
 use Rattle.claims.proofs.Steps.{laid_row}
 use Rattle.claims.proofs.Laid.{slot, laid, Fits, AllFit, removed_laid, forgotten_laid, fetched_laid, kept_laid}
+use Rattle.std.specs.Prelude.{Ok, Err}
+use Rattle.packs.specs.Reading.{Outcome}
 
 -- a span of c slots of w words is the list laid out
 pub record Held (w c : ℕ) (ts : List Table) (s : List ℕ) : Type 0 where
@@ -139,12 +139,12 @@ module _ (l : Layout) (ok : Lawful l) where
     where
       go : (o : Outcome) → (read_job job).outcome ≡ o
           → on_job o (fetch_from l (job_of (read_job job).words) room xs) ≡ on_job o (fetched (job_of (read_job job).words) room (lists (job_of (read_job job).words).society))
-      go (Done k) e =
+      go (Ok k) e =
           let j = job_of (read_job job).words in
           let c = l.count j.society in
           let held = sim.spans j.society (read_jobs_allowed job k e).society in
           ap {B = Reply} (fetch_in l.words c j room) held.words ∙ fetched_laid l.words ok.wide j room c (lists j.society) held.few held.fit
-      go (Refuses number place) e = refl
+      go (Err r) e = refl
   laid_said_lem (forget society job) xs lists sim =
       let c = l.count society in
       sim_from society (forget_reply l.words c job) (forgotten job) (λ ts x k. ap {B = Reply} (forget_reply l.words c job) k.words ∙ forgotten_laid l.words ok.wide job c ts k.few k.fit) xs lists sim

@@ -11,18 +11,14 @@ use lib.IntN.{ℤ, pos}
 use lib.ListN.{length, drop, get_or, length-drop, length-append, get_or-append}
 use lib.Seq.{length-take-le}
 use Rattle.std.specs.Prelude.{if◌then◌else◌}
-use Rattle.packs.specs.declared.Outcome.{Outcome}
-use Rattle.packs.specs.declared.Outcome.TheVariants.{Done, Refused as Refuses}
-use Rattle.packs.specs.Reading.{Ran}
+use Rattle.packs.specs.Reading.{Outcome, Ran}
 use Rattle.jobs.specs.Job.{Job}
 use Rattle.jobs.specs.Words.{word_at}
 use Rattle.jobs.specs.Allowed.{Allowed, Proposed}
 use Rattle.jobs.specs.Packs.{job_in, read_job, write_proposal}
 use Rattle.jobs.proofs.Readings.{read_jobs_allowed, read_jobs_laid}
 use Rattle.jobs.proofs.Trips.{proposed_read_back}
-use Rattle.measure.specs.declared.check.Verdict.{Verdict}
-use Rattle.measure.specs.declared.check.Verdict.TheVariants.{Accepted, Refused}
-use Rattle.measure.specs.Check.{on_read, proposal_verdict, check_of, verdict_for}
+use Rattle.measure.specs.Check.{Verdict, accepting, on_read, proposal_verdict, check_of, verdict_for}
 use Rattle.std.specs.Prelude.{Option, Some, None}
 use Rattle.slots.specs.Slots.{head_size, values_end, slot_words, lowest, has_job, at_slot}
 use Rattle.checked.specs.Answers.{Reply, refusal, overwritten, answer_of}
@@ -43,6 +39,7 @@ use Rattle.claims.specs.BenchPromises.{ToldBest, ToldFetched}
 use Rattle.claims.proofs.Accepted.{no_other_refusal}
 use Rattle.claims.proofs.Far.{close_same}
 use Rattle.claims.proofs.Told.{told, Handed, handed_told}
+use Rattle.refusals.specs.declared.Refusal.TheVariants.{BadProposal}
 
 -- ---- where the verdict on kept numbers has the number 0, every one of them is allowed
 record AllAllowed (first most : ℕ) (numbers : List ℕ) (later : Verdict) : Type 0 where
@@ -56,14 +53,14 @@ none_six first most numbers later n = go (ltb x (length numbers)) refl
     x = lowest_above most numbers
 
     by : Bool → Verdict
-    by b = if b then Refused 6 (first + x) else later
+    by b = if b then Err (BadProposal (first + x)) else later
 
     go : (b : Bool) → ltb x (length numbers) ≡ b → AllAllowed first most numbers later
     go true e = let z : ◌≡◌ {A = ℕ} 6 0 = sym (ap (λ (b : Bool). (answer_of (by b)).number) e) ∙ n in absurd (omega (arith, z))
     go false e = record { small = all_allowed most numbers x refl (ltb-false x (length numbers) e); is = ap {B = Verdict} by e }
 
 -- ---- so they are those of a pack
-module _ (job : List ℕ) (k : ℕ) (reads : (read_job job).outcome ≡ Done k) (v y : List ℕ) (ev : length v ≡ (job_in job).cells) (ey : length y ≡ (job_in job).links)
+module _ (job : List ℕ) (k : ℕ) (reads : (read_job job).outcome ≡ Ok k) (v y : List ℕ) (ev : length v ≡ (job_in job).cells) (ey : length y ≡ (job_in job).links)
     (n : (answer_of (kept_verdict (job_in job) v y)).number ≡ 0) where
   abbrev j : Job
   j = job_in job
@@ -94,7 +91,7 @@ module _ (job : List ℕ) (k : ℕ) (reads : (read_job job).outcome ≡ Done k) 
   abbrev pack : List ℕ
   pack = (write_proposal j.cells j.links words).bytes
 
-  read_back : proposal_in job pack ≡ record { words = words; outcome = Done (length words) }
+  read_back : proposal_in job pack ≡ record { words = words; outcome = Ok (length words) }
   read_back = proposed_read_back j.cells j.links words proposed
 
   checked : check_of job pack ≡ kept_verdict j v y
@@ -121,10 +118,10 @@ Behind job r = r.answer.number ≡ 0 → Given job r
 
 -- a reply's number is its verdict's, but for 13
 handed_zero : (room : ℕ) (v : List ℕ) (w : Verdict) → (handed room v w).answer.number ≡ 0 → (answer_of w).number ≡ 0
-handed_zero room v (Accepted F G) n = refl
-handed_zero room v (Refused number place) n = n
+handed_zero room v (Ok f) n = refl
+handed_zero room v (Err r) n = n
 
-module _ (job : List ℕ) (k : ℕ) (reads : (read_job job).outcome ≡ Done k) (room : ℕ) where
+module _ (job : List ℕ) (k : ℕ) (reads : (read_job job).outcome ≡ Ok k) (room : ℕ) where
   abbrev its_job : Job
   its_job = job_in job
 
@@ -178,10 +175,10 @@ unfolding fetch_reply
 whole_behind l ok job room shelf len n = go (read_job job).outcome refl n
   where
     go : (o : Outcome) → (read_job job).outcome ≡ o → Behind job (on_job o (fetch_from l (job_in job) room shelf))
-    go (Done k) e m =
+    go (Ok k) e m =
         let s = (job_in job).society in
         span_behind job k e room l.words (l.count s) (span_of l s shelf) ok.wide (span_length l ok s shelf len (read_jobs_allowed job k e).society) m
-    go (Refuses number place) e m = absurd (omega (arith, m, (no_other_refusal job [] number place (ap (λ (o : Outcome). on_read o (proposal_verdict (job_in job) [])) e)).0))
+    go (Err r) e m = absurd (omega (arith, m, (no_other_refusal job [] number place (ap (λ (o : Outcome). on_read o (proposal_verdict (job_in job) [])) e)).0))
 
 any_behind : (shelf job : List ℕ) (room : ℕ) → Behind job (said shelf (own (fetch job room)))
 any_behind shelf job room n = go (test_shelf (row_in shelf) shelf) refl n

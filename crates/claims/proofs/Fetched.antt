@@ -10,14 +10,11 @@ use borrow.Author.Tests.{eqb-true}
 use lib.Dec.{eqb}
 use lib.IntN.{ℤ, pos}
 use lib.ListN.{length, get_or}
-use Rattle.packs.specs.declared.Outcome.{Outcome}
-use Rattle.packs.specs.declared.Outcome.TheVariants.{Done, Refused as Refuses}
-use Rattle.packs.specs.Reading.{Ran}
+use Rattle.packs.specs.Reading.{Outcome, Ran}
 use Rattle.jobs.specs.Job.{Job}
 use Rattle.jobs.specs.Words.{word_at}
 use Rattle.jobs.specs.Packs.{job_in, read_job}
-use Rattle.measure.specs.declared.check.Verdict.{Verdict}
-use Rattle.measure.specs.Check.{on_read, proposal_verdict, check_of}
+use Rattle.measure.specs.Check.{Verdict, on_read, proposal_verdict, check_of}
 use Rattle.checked.specs.Answers.{Reply, accepted}
 use Rattle.checked.specs.Checked.{Checked, checked_of, values_of}
 use Rattle.shelf.specs.Fetched.{handed, same_counts, on_job}
@@ -37,6 +34,7 @@ use Rattle.claims.proofs.Told.{handed_told}
 use Rattle.claims.proofs.Every.{All, all_kept, all_removed}
 use Rattle.claims.proofs.AsChecked.{value_kept, same_proposal, fetched_checked, counts_refused}
 use Rattle.claims.proofs.LastKept.{fetch_said}
+use Rattle.std.specs.Prelude.{Ok, Err}
 
 -- ---- what holds of every kept table holds of every table of the lists
 module _ (P : (society : ℕ) → Table → Type 0) where
@@ -175,9 +173,9 @@ fetched_of counts shelf from calls job room n =
   where
     go : (o : Outcome) → (read_job job).outcome ≡ o → (on_job o (fetched (job_in job) room (held counts calls (job_in job).society))).answer.number ≡ 0
         → IsAccepted calls job (on_job o (fetched (job_in job) room (held counts calls (job_in job).society)))
-    go (Done k) e m =
+    go (Ok k) e m =
         let j = job_in job in
         let ts = held counts calls j.society in
         let g = fetched_gives (Came calls j.society) j room ts (came counts calls j.society) (λ z. omega (arith, m, z)) in
         subst (λ (x : Reply). IsAccepted calls job x) (sym g.is) (behind calls job room (k, e) g.table g.holds g.its_job (sym (ap (λ (x : Reply). x.answer.number) g.is) ∙ m))
-    go (Refuses number place) e m = absurd (omega (arith, m, (no_other_refusal job [] number place (ap (λ (o : Outcome). on_read o (proposal_verdict (job_in job) [])) e)).0))
+    go (Err r) e m = absurd (omega (arith, m, (no_other_refusal job [] number place (ap (λ (o : Outcome). on_read o (proposal_verdict (job_in job) [])) e)).0))

@@ -10,12 +10,9 @@ use lib.Dec.{eqb, ltb}
 use lib.ListN.{length}
 use borrow.Author.Tests.{le-leb, eqb-true, eqb-false, eq-eqb, ne_eqb}
 use lib.IntN.{nat_abs}
-use Rattle.packs.specs.declared.Outcome.{Outcome}
 use Rattle.jobs.specs.Job.{Job}
 use Rattle.jobs.specs.Packs.{job_in, read_job}
-use Rattle.measure.specs.declared.check.Verdict.{Verdict}
-use Rattle.measure.specs.declared.check.Verdict.TheVariants.{Accepted, Refused}
-use Rattle.measure.specs.Check.{check_of}
+use Rattle.measure.specs.Check.{Verdict, accepting, check_of}
 use Rattle.checked.specs.Answers.{Reply, refusal, accepted, answer_of}
 use Rattle.checked.specs.Checked.{Checked, checked_of, values_of, multipliers_of}
 use Rattle.shelf.specs.Fetched.{handed, on_job}
@@ -32,6 +29,8 @@ use Rattle.claims.specs.Read.{Reads}
 use Rattle.checked.proofs.Sound.{accepted_read, values_count}
 use Rattle.claims.proofs.EightLists.{Stands, stands_after, stands_said, from_cleared}
 use Rattle.claims.proofs.AsChecked.{fetched_checked}
+use Rattle.std.specs.Prelude.{Ok, Err}
+use Rattle.packs.specs.Reading.{Outcome}
 
 clash : {A : Type 0} → false ≡ true → A
 clash e = absurd (true≢false (sym e))
@@ -325,9 +324,9 @@ module _ (counts shelf : List ℕ) (from : ClearedWith counts shelf) where
 -- ---- with the job pack under which it was kept
 accepted_given : (room : ℕ) (job : ℕ) (vs ms : List ℕ) (v : Verdict) → accepted v ≡ true → length vs ≤ room
     → handed room vs v ≡ given (record { job = job; loss = (answer_of v).loss; gap = (answer_of v).gap; values = vs; multipliers = ms })
-accepted_given room job vs ms (Accepted F G) y h =
+accepted_given room job vs ms (Ok f) y h =
     ap {B = Reply} (λ (b : Bool). cond b (record { answer = record { number = 0; place = length vs; loss = nat_abs F; gap = nat_abs G }; values = vs }) (refusal 13 (length vs))) (le-leb (length vs) room h)
-accepted_given room job vs ms (Refused number place) y h = clash y
+accepted_given room job vs ms (Err r) y h = clash y
 
 pub same_given : (job proposal : List ℕ) → accepted (check_of job proposal) ≡ true → (room : ℕ) → (job_in job).cells ≤ room
     → table_for (job_in job) room (table_from (checked_of job proposal)) ≡ given (table_from (checked_of job proposal))

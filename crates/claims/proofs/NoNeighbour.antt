@@ -11,8 +11,6 @@ use lib.Dec.{eqb, leb}
 use lib.IntN.{ℤ, nat_abs}
 use lib.ListN.{length, replicate}
 use borrow.Author.Tests.{leb-true, eqb-true, eqb-false, ne_eqb, not-false, not-true}
-use Rattle.packs.specs.declared.Outcome.{Outcome}
-use Rattle.packs.specs.declared.Outcome.TheVariants.{Done, Refused as Refuses}
 use Rattle.jobs.specs.Words.{job_of}
 use Rattle.jobs.specs.Packs.{read_job}
 use Rattle.jobs.proofs.Readings.{read_jobs_allowed}
@@ -34,6 +32,8 @@ use Rattle.shelf.proofs.Sound.{Sound, accepted_sound, accepted_named}
 use Rattle.claims.specs.Heard.{heard, without, sent, only_own}
 use Rattle.claims.specs.LastKept.{ClearedWith}
 use Rattle.claims.proofs.Steps.{keep_step, forget_step, kept_same, forgot_same, laid_length, laid_row}
+use Rattle.std.specs.Prelude.{Option, Ok, Err}
+use Rattle.packs.specs.Reading.{Outcome}
 
 -- ---- a call names this society, or another, or none
 not_other : (s : ℕ) (o : Option ℕ) → is s o ≡ true → is_not s o ≡ false
@@ -146,11 +146,11 @@ module _ (rx ry : List ℕ) (ex : test_row rx ≡ passed) (ey : test_row ry ≡ 
       named_own (word ∷ words) e = eqb-true (nat_abs word) s e
 
       go : (o : Outcome) → (read_job job).outcome ≡ o → on_job o (fetch_from lx' (job_of (read_job job).words) room xs) ≡ on_job o (fetch_from ly' (job_of (read_job job).words) room ys)
-      go (Done k) e =
+      go (Ok k) e =
           let j = job_of (read_job job).words in
           let q = named_own (read_job job).words n in
           ap₂ {C = Reply} (λ (c : ℕ) (x : List ℕ). fetch_in slot_words c j room x) (count_same j.society q) (spans j.society q (read_jobs_allowed job k e).society)
-      go (Refuses number place) e = refl
+      go (Err r) e = refl
   laid_told (forget t job) n = from_own t (λ c x. forget_reply slot_words c job x) (eqb-true t s n)
 
 -- ---- on any words: the test of the shelf refuses it, or it is ready

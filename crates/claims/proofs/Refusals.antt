@@ -7,13 +7,9 @@ use lib.Dec.{leb}
 use lib.IntN.{nat_abs}
 use lib.ListN.{length, drop}
 use borrow.Rule.Slice.PartMut.{put_mid, put_same}
-use Rattle.packs.specs.declared.Outcome.{Outcome}
-use Rattle.packs.specs.declared.Outcome.TheVariants.{Done, Refused as Unread}
 use Rattle.jobs.specs.Job.{Job}
 use Rattle.jobs.specs.Words.{job_of}
 use Rattle.jobs.specs.Packs.{read_job}
-use Rattle.measure.specs.declared.check.Verdict.{Verdict}
-use Rattle.measure.specs.declared.check.Verdict.TheVariants.{Accepted, Refused as Refuses}
 use Rattle.std.specs.Prelude.{Option, Some, None}
 use Rattle.slots.specs.Slots.{lowest, has_job, at_slot, dropped_slot, forgot_in}
 use Rattle.checked.specs.Answers.{Reply, refusal, done, accepted, answer_of}
@@ -28,11 +24,15 @@ use Rattle.shelf.specs.Shelf.{layout_in}
 use Rattle.shelf.specs.Calls.{Own, Call, keep, fetch, forget, own, clear, laid_after, laid_said, after, said}
 use Rattle.shelf.proofs.Answered.{said_refused, after_refused, clear_refused}
 use Rattle.claims.specs.ShelfPromises.{Refused, GivesNothing}
+use Rattle.std.specs.Prelude.{Ok, Err}
+use Rattle.packs.specs.Reading.{Outcome}
+use Rattle.measure.specs.Check.{accepting}
+use Rattle.measure.specs.Check.{Verdict}
 
 -- ---- a span's calls
 out_nothing : (room : ℕ) (v : List ℕ) (w : Verdict) → Refused (handed room v w) → GivesNothing (handed room v w)
-out_nothing room v (Refuses number place) n = (refl, refl, refl)
-out_nothing room v (Accepted F G) n = go (leb (length v) room) n
+out_nothing room v (Err r) n = (refl, refl, refl)
+out_nothing room v (Ok f) n = go (leb (length v) room) n
   where
     given : Bool → Reply
     given b = cond b (record { answer = record { number = 0; place = length v; loss = nat_abs F; gap = nat_abs G }; values = v }) (refusal 13 (length v))
@@ -58,8 +58,8 @@ fetch_nothing w c j room s n = go (lowest (has_job j.number) w c s) n
     go None m = (refl, refl, refl)
 
 unread_nothing : (o : Outcome) (r : Reply) → (Refused r → GivesNothing r) → Refused (on_job o r) → GivesNothing (on_job o r)
-unread_nothing (Done k) r h n = h n
-unread_nothing (Unread number place) r h n = (refl, refl, refl)
+unread_nothing (Ok k) r h n = h n
+unread_nothing (Err r) r h n = (refl, refl, refl)
 
 module _ (w c job : ℕ) (s : List ℕ) where
   forget_nothing : Refused (forget_reply w c job s) → forgot_in w c job s ≡ s
@@ -107,8 +107,8 @@ module _ (l : Layout) (xs : List ℕ) where
   kept_nothing o n = go o.verdict n
     where
       go : (v : Verdict) → Refused (replied_by v) → (kept_by o v ≡ xs) × GivesNothing (replied_by v)
-      go (Accepted F G) m = absurd (m refl)
-      go (Refuses number place) m = (refl, (refl, refl, refl))
+      go (Ok f) m = absurd (m refl)
+      go (Err r) m = (refl, (refl, refl, refl))
 
   laid_nothing : (call : Own) → Refused (laid_said l xs call) → (laid_after l xs call ≡ xs) × GivesNothing (laid_said l xs call)
   unfolding fetch_reply forgot_shelf forgot_reply

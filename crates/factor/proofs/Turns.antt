@@ -1,7 +1,7 @@
 -- One turn of each loop of the factor and the solve, and its end: the loops run as their definitions do.
 use mathlib.Core.Path.{◌≡◌, refl, sym, ap, ◌∙◌}
 use mathlib.Core.Bool.{Bool, true, false}
-use mathlib.Core.List.{List}
+use mathlib.Core.List.{List, ◌++◌}
 use Prim.Native.Nat.{ℕ, zero, suc, ◌+◌, ◌-◌, ◌*◌, ◌≤◌, ◌<◌}
 use native.Mathlib.Nat as N
 use native.Mathlib.Omega.{arith}
@@ -9,14 +9,14 @@ use native.Mathlib.Numerals.{add-one}
 use lib.ListN.{length, get_or, set, take, drop, length-set, length-replicate, length-take, length-drop}
 use lib.Dec.{eqb, ltb}
 use borrow.Author.Tests.{eqb-true, eqb-false, ltb-true, ltb-false}
-use lib.Seq.{sets, length-sets, get_or-set_same, get_or-set_other, get_or-take, get_or-drop, drop-cons, drop-length}
+use Rattle.std.proofs.lemmas.Slice.{put_mid-paste}
+use Rattle.std.proofs.lemmas.List.Edits.{sets-eq}
+use borrow.Rule.Slice.PartMut.{put_mid}
+use lib.Seq.{paste, take-length, sets, length-sets, get_or-set_same, get_or-set_other, get_or-take, get_or-drop}
 use lib.IntN.{pos}
 use lib.Ieee.{Float, fin, binary64, sub, div, lt, of_bits, nan}
-use Rattle.factor.specs.declared.Pivot.{Pivot}
-use Rattle.factor.specs.declared.Pivot.TheVariants.{Accepted, Thin as ThinPivot}
-use Rattle.factor.specs.declared.Ending.{Ending}
-use Rattle.factor.specs.declared.Ending.TheVariants.{Whole, Thin}
-use Rattle.factor.specs.Factor.{Band, Made, Factor, pivot_at, multiplier_at, start_of, row_at, less_by, lowest, product_of, multiplier_of, row_from, no_multipliers, pivot_of, least, judged_by, judged, value_of, factor_step, on_pivot, factor_from}
+use Rattle.std.specs.Prelude.{Ok, Err}
+use Rattle.factor.specs.Factor.{Band, Made, Pivot, Ending, Factor, pivot_at, multiplier_at, start_of, row_at, less_by, lowest, product_of, multiplier_of, row_from, no_multipliers, pivot_of, least, judged_by, judged, value_of, factor_step, on_pivot, factor_from}
 use Rattle.factor.specs.Places.{Placed}
 use Rattle.factor.specs.Solve.{highest, lower_term, upper_term, forward_from, divided_from, backward_from}
 
@@ -144,9 +144,6 @@ length_row z entries d l j lo (suc n) i made =
     let x = multiplier_of z entries d l j lo i made in
     length_row z entries d l j lo n (i + 1) (set made (j - i - 1) x) ∙ length-set made (j - i - 1) x
 
-pub blank_length : (n : ℕ) {made : List Float} → made ≡ no_multipliers n → length made ≡ n
-blank_length n e = ap length e ∙ length-replicate n (fin false 0 (pos 0))
-
 -- ---- a step's answer, by the comparison with 1/1,024
 
 pub value_judged : (x : Float) → value_of (judged x) ≡ x
@@ -157,11 +154,11 @@ value_judged x = go (lt least x)
     go false = refl
 
 module _ (x : Float) where
-  pub accepted : lt (of_bits binary64 0x3f50_0000_0000_0000) x ≡ true → Accepted x ≡ judged x
+  pub accepted : lt (of_bits binary64 0x3f50_0000_0000_0000) x ≡ true → Ok x ≡ judged x
   unfolding of_bits
   accepted e = ap {B = Pivot} (λ (b : Bool). judged_by b x) (sym e)
 
-  pub thin : lt (of_bits binary64 0x3f50_0000_0000_0000) x ≡ false → ThinPivot x ≡ judged x
+  pub thin : lt (of_bits binary64 0x3f50_0000_0000_0000) x ≡ false → Err x ≡ judged x
   unfolding of_bits
   thin e = ap {B = Pivot} (λ (b : Bool). judged_by b x) (sym e)
 
@@ -181,16 +178,11 @@ module _ (entries d l : List Float) (z j : ℕ) where
 
 -- ---- a row to its places
 
-module _ (l row : List Float) (at o : ℕ) where
-  pub put_more : o < length row → sets l (at + o) (drop o row) ≡ sets (set l (at + o) (get_or row o nan)) (at + (o + 1)) (drop (o + 1) row)
-  put_more h =
-      let e : at + (o + 1) ≡ suc (at + o) = omega arith in
-      rw (drop-cons row o nan h, e, add-one o)
-
-  pub put_done : length row ≤ o → o ≤ length row → sets l (at + o) (drop o row) ≡ l
-  put_done h k =
-      let e : o ≡ length row = omega arith in
-      rw (e, drop-length row)
+-- what a copy into a part leaves
+pub put_all : (l row now : List Float) (at k : ℕ) → at + length row ≤ length l → now ≡ row → k ≡ length row → put_mid at k l now ≡ sets l at row
+put_all l row now at k h e f =
+    let p : put_mid at k l now ≡ paste l at row (length row) = put_mid-paste at k l now row (length row) e (sym f) refl in
+    p ∙ ap (λ (r : List Float). take at l ++ r ++ drop (at + length row) l) (take-length row) ∙ sym (sets-eq row l at h)
 
 -- ---- the factoring, row by row
 
@@ -204,10 +196,10 @@ module _ (band : Band) (z j : ℕ) (d l : List Float) (n : ℕ) (h : j < n) wher
 
   -- the row made, with the answer of its pivot
   module _ {y : Float} (g : y ≡ made.pivot) {lj : List Float} (f : lj ≡ made.multipliers) {x : Float} where
-    pub factor_more : judged y ≡ Accepted x → factor_from band z (n - j) j d l ≡ factor_from band z (n - (j + 1)) (j + 1) (set d j y) (sets l (start_of z j) lj)
+    pub factor_more : judged y ≡ Ok x → factor_from band z (n - j) j d l ≡ factor_from band z (n - (j + 1)) (j + 1) (set d j y) (sets l (start_of z j) lj)
     factor_more a = rw (← f, ← g, a) at opened
 
-    pub factor_thin : judged y ≡ ThinPivot x → factor_from band z (n - j) j d l ≡ record { ending = Thin j x; pivots = set d j y; multipliers = sets l (start_of z j) lj }
+    pub factor_thin : judged y ≡ Err x → factor_from band z (n - j) j d l ≡ record { ending = Err (record { cell = j; pivot = x }); pivots = set d j y; multipliers = sets l (start_of z j) lj }
     factor_thin a = rw (← f, ← g, a) at opened
 
   -- the same, by an answer that carries its pivot
@@ -218,13 +210,13 @@ module _ (band : Band) (z j : ℕ) (d l : List Float) (n : ℕ) (h : j < n) wher
     same : judged y ≡ p
     same = ap {B = Pivot} judged told ∙ sym e
 
-    pub answer_more : {x : Float} → p ≡ Accepted x → factor_from band z (n - j) j d l ≡ factor_from band z (n - (j + 1)) (j + 1) (set d j y) l1
+    pub answer_more : {x : Float} → p ≡ Ok x → factor_from band z (n - j) j d l ≡ factor_from band z (n - (j + 1)) (j + 1) (set d j y) l1
     answer_more a = factor_more told refl (same ∙ a) ∙ ap (factor_from band z (n - (j + 1)) (j + 1) (set d j y)) (sym f)
 
-    pub answer_thin : {x : Float} → p ≡ ThinPivot x → factor_from band z (n - j) j d l ≡ record { ending = Thin j x; pivots = set d j y; multipliers = l1 }
-    answer_thin {x} a = factor_thin told refl (same ∙ a) ∙ ap {B = Factor} (λ (l : List Float). record { ending = Thin j x; pivots = set d j y; multipliers = l }) (sym f)
+    pub answer_thin : {x : Float} → p ≡ Err x → factor_from band z (n - j) j d l ≡ record { ending = Err (record { cell = j; pivot = x }); pivots = set d j y; multipliers = l1 }
+    answer_thin {x} a = factor_thin told refl (same ∙ a) ∙ ap {B = Factor} (λ (l : List Float). record { ending = Err (record { cell = j; pivot = x }); pivots = set d j y; multipliers = l }) (sym f)
 
-pub factor_done : (band : Band) (z j n : ℕ) (d l : List Float) → n ≤ j → factor_from band z (n - j) j d l ≡ record { ending = Whole; pivots = d; multipliers = l }
+pub factor_done : (band : Band) (z j n : ℕ) (d l : List Float) → n ≤ j → factor_from band z (n - j) j d l ≡ record { ending = Ok tt; pivots = d; multipliers = l }
 unfolding factor_from
 factor_done band z j n d l h = ap {B = Factor} (λ (k : ℕ). factor_from band z k j d l) (none j n h)
 
@@ -239,8 +231,8 @@ factor_length band z (suc n) j d l =
     go (judged step.pivot) d1 l1 (factor_from band z n (j + 1) d1 l1) (factor_length band z n (j + 1) d1 l1) ∙ length-sets l (start_of z j) step.multipliers
   where
     go : (p : Pivot) (d l : List Float) (rest : Factor) → length rest.multipliers ≡ length l → length (on_pivot p j d l rest).multipliers ≡ length l
-    go (Accepted x) d l rest h = h
-    go (ThinPivot x) d l rest h = refl
+    go (Ok x) d l rest h = h
+    go (Err x) d l rest h = refl
 
 -- the parts of an equal factor are equal
 pub parts : {e : Ending} {d l : List Float} {f : Factor} → record { ending = e; pivots = d; multipliers = l } ≡ f → (e ≡ f.ending) × (d ≡ f.pivots) × (l ≡ f.multipliers)

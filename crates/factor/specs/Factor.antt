@@ -1,13 +1,10 @@
 -- The factor of a band (document 01, "The house proposal"), each operation rounded once and in this order. A line's band is its order wide, a grid's
 -- its order down times its columns (document 02, W-205: "by 01's steps with z there the order down times the columns").
-use Rattle.std.specs.Prelude.{ℕ, zero, suc, ◌+◌, ◌-◌, Bool, true, false, List, pos, negsuc, get_or, set, take, drop, replicate, Float}
+use Rattle.std.specs.Prelude.{ℕ, zero, suc, ◌+◌, ◌-◌, Bool, true, false, List, Result, Ok, Err, pos, negsuc, get_or, set, take, drop, replicate, Float}
 use Rattle.std.proofs.lemmas.List.Edits.{sets}
 use Rattle.std.specs.Float.{fin, nan, binary64}
 use Rattle.std.specs.Float.Ieee.{sub, mul, div, lt}
-use Rattle.factor.specs.declared.Ending.{Ending}
-use Rattle.factor.specs.declared.Pivot.{Pivot}
-use Rattle.factor.specs.declared.Pivot.TheVariants.{Accepted, Thin as ThinPivot}
-use Rattle.factor.specs.declared.Ending.TheVariants.{Whole, Thin}
+use Rattle.factor.specs.declared.Thin.{Thin}
 
 -- A band gives for row j its entries: at the offset o stands A(j, j - o).
 abbrev pub Band : Type 0
@@ -67,9 +64,13 @@ pivot_of entries d j lo lj = less_by (product_of lj j lj j d) lo (j - lo) (get_o
 abbrev pub least : Float
 least = fin false 1 (negsuc 9)
 
+-- What a step answers of its pivot: accepted, or the one that failed.
+abbrev pub Pivot : Type 0
+Pivot = Result Float Float
+
 abbrev pub judged_by : Bool → Float → Pivot
-judged_by true x = Accepted x
-judged_by false x = ThinPivot x
+judged_by true x = Ok x
+judged_by false x = Err x
 
 -- "thin if d(j) is not greater than 1/1,024": a NaN is greater than nothing.
 abbrev pub judged : Float → Pivot
@@ -77,8 +78,8 @@ judged x = judged_by (lt least x) x
 
 -- The pivot that an answer carries.
 abbrev pub value_of : Pivot → Float
-value_of (Accepted x) = x
-value_of (ThinPivot x) = x
+value_of (Ok x) = x
+value_of (Err x) = x
 
 -- "Each step answers either the factor row with its pivot, or thin with the pivot that failed": the row made, and d(j).
 pub record Made : Type 0 where
@@ -91,20 +92,24 @@ factor_step entries d l z j =
     let lj = row_from z entries d l j (lowest j z) (j - lowest j z) (lowest j z) (no_multipliers (j - lowest j z)) in
     record { pivot = pivot_of entries d j (lowest j z) lj; multipliers = lj }
 
--- How the factoring ends, and the rows made: pivots and multipliers, cell by cell.
+-- How the factoring ends: with every row, or thin at a cell, with the pivot that failed.
+abbrev pub Ending : Type 0
+Ending = Result (Unit {0}) Thin
+
+-- The same, and the rows made: pivots and multipliers, cell by cell.
 pub record Factor : Type 0 where
   pub ending : Ending
   pub pivots : List Float
   pub multipliers : List Float
 
 abbrev pub on_pivot : Pivot → (j : ℕ) (d l : List Float) → Factor → Factor
-on_pivot (Accepted x) j d l rest = rest
-on_pivot (ThinPivot x) j d l rest = record { ending = Thin j x; pivots = d; multipliers = l }
+on_pivot (Ok x) j d l rest = rest
+on_pivot (Err x) j d l rest = record { ending = Err (record { cell = j; pivot = x }); pivots = d; multipliers = l }
 
 -- n rows from row j on, or up to the first thin one.
 unfoldable pub factor_from : Band → (z n j : ℕ) (d l : List Float) → Factor
 unfolding factor_step start_of
-factor_from band z zero j d l = record { ending = Whole; pivots = d; multipliers = l }
+factor_from band z zero j d l = record { ending = Ok tt; pivots = d; multipliers = l }
 factor_from band z (suc n) j d l =
     let step = factor_step (band j) d l z j in
     let d1 = set d j step.pivot in

@@ -1,10 +1,8 @@
 -- The solve with the factor (document 01, "The house proposal"), each operation rounded once and in this order.
-use Rattle.std.specs.Prelude.{ℕ, zero, suc, ◌+◌, ◌-◌, min, List, get_or, set, Float}
+use Rattle.std.specs.Prelude.{ℕ, zero, suc, ◌+◌, ◌-◌, min, List, get_or, set, Ok, Err, Float}
 use Rattle.std.specs.Float.{nan, binary64}
 use Rattle.std.specs.Float.Ieee.{mul, div}
-use Rattle.factor.specs.declared.Ending.{Ending}
-use Rattle.factor.specs.declared.Ending.TheVariants.{Whole, Thin}
-use Rattle.factor.specs.Factor.{pivot_at, multiplier_at, row_at, less_by, lowest}
+use Rattle.factor.specs.Factor.{Ending, pivot_at, multiplier_at, row_at, less_by, lowest}
 
 -- "min(n-1, j+z)"
 abbrev pub highest : (j z n : ℕ) → ℕ
@@ -43,5 +41,5 @@ solution_of d l z n right = backward_from l z n n (divided_from d n 0 (forward_f
 
 -- What a factor makes of a right side by how its making ended: the values before rounding, or, where it is thin, the right side as it was.
 abbrev pub solved_by : (z n : ℕ) (right d l : List Float) → Ending → List Float
-solved_by z n right d l Whole = solution_of d l z n right
-solved_by z n right d l (Thin cell pivot) = right
+solved_by z n right d l (Ok whole) = solution_of d l z n right
+solved_by z n right d l (Err thin) = right

@@ -15,18 +15,11 @@ pub const CELLS: usize = 120;
 // The places of a list of starts: one a row, and one for the end.
 pub const STARTS: usize = 121;
 
-// What a step answers of its pivot.
+// Where a factoring is thin: the cell, and the pivot that failed there.
 #[derive(Clone, Copy)]
-pub enum Pivot {
-    Accepted(f64),
-    Thin(f64),
-}
-
-// How the factoring ends: with every row, or thin at a cell, with the pivot that failed.
-#[derive(Clone, Copy)]
-pub enum Ending {
-    Whole,
-    Thin(usize, f64),
+pub struct Thin {
+    pub cell: usize,
+    pub pivot: f64,
 }
 
 // max(0, j - z)
@@ -43,20 +36,12 @@ pub fn starts_of(n: usize, z: usize) -> [u16; STARTS]
 {
     let mut made = [0u16; STARTS];
     let mut at: usize = 0;
-    let mut j: usize = 0;
-    while j <= n {
+    for j in 0..n + 1 {
         made[j] = at as u16;
         let lo = lowest_of(j, z);
         at += j - lo;
-        j += 1;
     }
     made
-}
-
-fn wide(x: u16) -> usize
-    ensures { (result ≡ x) × (result < 65536) }
-{
-    x as usize
 }
 
 // Where row i starts.
@@ -64,7 +49,7 @@ pub fn start_at(starts: &[u16; STARTS], i: usize) -> usize
     requires { i ≤ 120 }
     ensures { (result ≡ get_or starts.now i 0) × (result < 65536) }
 {
-    wide(starts[i])
+    usize::from(starts[i])
 }
 
 // x less (L(j,m) d(m)) L(i,m), for m rising from lo to i - 1; lj and li are the multipliers of the rows j and i.
@@ -81,12 +66,10 @@ fn less_products(
     ensures { result ≡ less_by (product_of lj.now j li.now i d.now) lo (i - lo) x }
 {
     let mut rest = x;
-    let mut m = lo;
-    while m < i {
+    for m in lo..i {
         let p = j - m - 1;
         let q = i - m - 1;
         rest = rest - (lj[p] * d[m]) * li[q];
-        m += 1;
     }
     rest
 }
@@ -105,8 +88,7 @@ fn multipliers_into(
     requires { (lo ≡ lowest j z) × (j < 120) × (z < length entries.now) × Placed z j starts.now l.now × (length made.old ≡ j - lo) }
     ensures { made.new ≡ row_from z entries.now d.now l.now j lo (j - lo) lo made.old }
 {
-    let mut i = lo;
-    while i < j {
+    for i in lo..j {
         let offset = j - i;
         let at = start_at(starts, i);
         let next = i + 1;
@@ -114,27 +96,26 @@ fn multipliers_into(
         let rest = less_products(made, &l[at..end], d, entries[offset], j, i, lo);
         let place = offset - 1;
         made[place] = rest / d[i];
-        i += 1;
     }
 }
 
-// A pivot that is greater than 1/1,024 is accepted.
-fn judge(x: f64) -> Pivot
+// A pivot that is greater than 1/1,024 is accepted; any other is the error.
+fn judge(x: f64) -> Result<f64, f64>
     ensures { result ≡ judged x }
 {
     if x > 0.0009765625 {
-        return Pivot::Accepted(x);
+        return Ok(x);
     }
-    Pivot::Thin(x)
+    Err(x)
 }
 
 // d(j) of a step's answer, whichever it is.
-pub fn value_of(pivot: Pivot) -> f64
+pub fn value_of(pivot: Result<f64, f64>) -> f64
     ensures { result ≡ value_of pivot }
 {
     match pivot {
-        Pivot::Accepted(x) => x,
-        Pivot::Thin(x) => x,
+        Ok(x) => x,
+        Err(x) => x,
     }
 }
 
@@ -147,7 +128,7 @@ pub fn factor_row(
     j: usize,
     z: usize,
     made: &mut [f64],
-) -> Pivot
+) -> Result<f64, f64>
     requires { (j < 120) × (z < length entries.now) × Placed z j starts.now l.now × (made.old ≡ no_multipliers (j - lowest j z)) }
     ensures { (result ≡ judged (factor_step entries.now d.now l.now z j).pivot) × (made.new ≡ (factor_step entries.now d.now l.now z j).multipliers) }
 {
@@ -161,10 +142,5 @@ pub fn put_row(row: &[f64], l: &mut [f64], at: usize)
     requires { at + length row.now ≤ length l.old }
     ensures { l.new ≡ sets l.old at row.now }
 {
-    let mut o = 0;
-    while o < row.len() {
-        let place = at + o;
-        l[place] = row[o];
-        o += 1;
-    }
+    l[at..at + row.len()].copy_from_slice(row);
 }

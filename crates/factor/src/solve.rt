@@ -4,7 +4,7 @@ ghost use Rattle.factor.specs.Factor.{less_by};
 ghost use Rattle.factor.specs.Places.{Placed};
 ghost use Rattle.factor.specs.Solve.{highest, lower_term, upper_term, forward_from, divided_from, backward_from, solution_of, solved_by};
 
-use crate::{CELLS, Ending, STARTS, lowest_of, start_at};
+use crate::{CELLS, STARTS, Thin, lowest_of, start_at};
 
 // min(n - 1, j + z)
 fn highest_of(j: usize, z: usize, n: usize) -> usize
@@ -20,11 +20,9 @@ fn less_lower(lj: &[f64], y: &[f64; CELLS], x: f64, j: usize, lo: usize) -> f64
     ensures { result ≡ less_by (lower_term lj.now j y.now) lo (j - lo) x }
 {
     let mut rest = x;
-    let mut m = lo;
-    while m < j {
+    for m in lo..j {
         let p = j - m - 1;
         rest = rest - lj[p] * y[m];
-        m += 1;
     }
     rest
 }
@@ -43,13 +41,11 @@ fn less_upper(
     ensures { result ≡ less_by (upper_term z l.now j v.now) (j + 1) (top - j) x }
 {
     let mut rest = x;
-    let mut m = j + 1;
-    while m <= top {
+    for m in j + 1..top + 1 {
         let p = m - j - 1;
         let at = start_at(starts, m);
         let place = at + p;
         rest = rest - l[place] * v[m];
-        m += 1;
     }
     rest
 }
@@ -59,8 +55,7 @@ fn forward(l: &[f64], starts: &[u16; STARTS], y: &mut [f64; CELLS], n: usize, z:
     requires { (n ≤ 120) × Placed z n starts.now l.now }
     ensures { y.new ≡ forward_from l.now z n 0 y.old }
 {
-    let mut j = 0;
-    while j < n {
+    for j in 0..n {
         let lo = lowest_of(j, z);
         let at = start_at(starts, j);
         let next = j + 1;
@@ -68,7 +63,6 @@ fn forward(l: &[f64], starts: &[u16; STARTS], y: &mut [f64; CELLS], n: usize, z:
         let x = y[j];
         let rest = less_lower(&l[at..end], y, x, j, lo);
         y[j] = rest;
-        j += 1;
     }
 }
 
@@ -77,10 +71,8 @@ fn divide(d: &[f64; CELLS], y: &mut [f64; CELLS], n: usize)
     requires { n ≤ 120 }
     ensures { y.new ≡ divided_from d.now n 0 y.old }
 {
-    let mut j = 0;
-    while j < n {
+    for j in 0..n {
         y[j] = y[j] / d[j];
-        j += 1;
     }
 }
 
@@ -89,14 +81,11 @@ fn backward(l: &[f64], starts: &[u16; STARTS], v: &mut [f64; CELLS], n: usize, z
     requires { (n ≤ 120) × (z ≤ 120) × Placed z n starts.now l.now }
     ensures { v.new ≡ backward_from l.now z n n v.old }
 {
-    let mut left = n;
-    while 0 < left {
-        let j = left - 1;
+    for j in (0..n).rev() {
         let top = highest_of(j, z, n);
         let x = v[j];
         let rest = less_upper(l, starts, z, v, x, j, top);
         v[j] = rest;
-        left -= 1;
     }
 }
 
@@ -119,22 +108,18 @@ pub fn solve(
 
 // The same where the factor is whole; where it is thin, nothing is done. The ending is handed back.
 pub fn solve_whole(
-    ending: Ending,
+    ending: Result<(), Thin>,
     d: &[f64; CELLS],
     l: &[f64],
     starts: &[u16; STARTS],
     v: &mut [f64; CELLS],
     n: usize,
     z: usize,
-) -> Ending
+) -> Result<(), Thin>
     requires { (n ≤ 120) × (z ≤ 120) × Placed z n starts.now l.now }
     ensures { (result ≡ ending) × (v.new ≡ solved_by z n v.old d.now l.now ending) }
 {
-    match ending {
-        Ending::Thin(cell, pivot) => Ending::Thin(cell, pivot),
-        Ending::Whole => {
-            solve(d, l, starts, v, n, z);
-            Ending::Whole
-        }
-    }
+    ending?;
+    solve(d, l, starts, v, n, z);
+    Ok(())
 }

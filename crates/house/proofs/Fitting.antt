@@ -1,5 +1,5 @@
 -- The promises of the house proposal: what is done was written whole, so it reads back as the words that were written, and each of them is known.
-use Rattle.std.proofs.Common.{◌≡◌, ℕ, ◌+◌, ◌<◌, ◌≤◌, Bool, true, false, ltb, List, length, get_or, replicate, ℤ, pos, sym, refl, ap, ◌∙◌, subst, inr, arith, ltb-false}
+use Rattle.std.proofs.Common.{◌≡◌, ℕ, ◌+◌, ◌<◌, ◌≤◌, Bool, true, false, ltb, List, length, get_or, replicate, ℤ, pos, sym, refl, ap, ◌∙◌, subst, inr, arith, ltb-false, Ok, Err}
 use native.Mathlib.Nat as N
 use lib.Ieee.{Float, nan}
 use lib.ListN.{length-replicate}
@@ -7,9 +7,8 @@ use Rattle.std.specs.Prelude.{if◌then◌else◌}
 use Rattle.numbers.proofs.Clash.{clash}
 use Rattle.whole.proofs.Order.{pos_mono}
 use Rattle.fields.specs.Table.{values_from}
-use Rattle.packs.specs.declared.Outcome.{Outcome}
-use Rattle.packs.specs.declared.Outcome.TheVariants.{Done, Refused}
-use Rattle.packs.specs.Reading.{Ran}
+use Rattle.refusals.specs.declared.Refusal.TheVariants.{NoRoom, NotProposed}
+use Rattle.packs.specs.Reading.{Outcome, Ran}
 use Rattle.packs.specs.Writing.{Written, in_room, refused, write_from}
 use Rattle.packs.proofs.Packing.{length_written}
 use Rattle.jobs.specs.Job.{Job}
@@ -18,8 +17,7 @@ use Rattle.jobs.specs.Allowed.{Allowed, Proposed}
 use Rattle.jobs.specs.Packs.{read_job, write_proposal}
 use Rattle.jobs.proofs.Places.{zeros_at}
 use Rattle.jobs.proofs.Readings.{read_jobs_allowed, six_done}
-use Rattle.factor.specs.declared.Ending.{Ending}
-use Rattle.factor.specs.declared.Ending.TheVariants.{Whole, Thin}
+use Rattle.factor.specs.Factor.{Ending}
 use Rattle.house.specs.Proposal.{solved_of, value_of, words_of, on_ending, proposed_of, on_job_read}
 use Rattle.house.specs.Promises.{Fit, ProposalsFit, ProposalsCounted}
 use Rattle.house.proofs.Boxed.{value_between, value_small}
@@ -30,17 +28,17 @@ use Rattle.house.proofs.Packable.{proposed_back}
 
 -- a writing that is done, with its length
 pub record Roomed (room : ℕ) (w r : Written) (n : ℕ) : Type 0 where
-  pub ends : w.outcome ≡ Done n
+  pub ends : w.outcome ≡ Ok n
   pub bytes : r.bytes ≡ w.bytes
   pub room_for : n ≤ room
 
-pub in_room_lem : (room : ℕ) (bytes : List ℕ) (o : Outcome) (n : ℕ) → (in_room room bytes o).outcome ≡ Done n
+pub in_room_lem : (room : ℕ) (bytes : List ℕ) (o : Outcome) (n : ℕ) → (in_room room bytes o).outcome ≡ Ok n
     → Roomed room (record { bytes = bytes; outcome = o }) (in_room room bytes o) n
-in_room_lem room bytes (Refused number place) n e = clash (cc)
-in_room_lem room bytes (Done m) n e = go (ltb room m) refl e
+in_room_lem room bytes (Err r) n e = clash (cc)
+in_room_lem room bytes (Ok m) n e = go (ltb room m) refl e
   where
-    go : (t : Bool) → ltb room m ≡ t → (if t then refused 13 m else record { bytes = bytes; outcome = Done m }).outcome ≡ Done n
-        → Roomed room (record { bytes = bytes; outcome = Done m }) (if t then refused 13 m else record { bytes = bytes; outcome = Done m }) n
+    go : (t : Bool) → ltb room m ≡ t → (if t then refused (NoRoom m) else record { bytes = bytes; outcome = Ok m }).outcome ≡ Ok n
+        → Roomed room (record { bytes = bytes; outcome = Ok m }) (if t then refused (NoRoom m) else record { bytes = bytes; outcome = Ok m }) n
     go true l e = clash (cc)
     go false l e =
         let q : m ≡ n = cc in
@@ -51,30 +49,30 @@ record Done-by (room : ℕ) (j : Job) (r : Written) (n : ℕ) : Type 0 where
   pub values : List Float
   pub whole : Roomed room (write_proposal j.cells j.links (words_of j values)) r n
 
-on_ending_lem : (room : ℕ) (j : Job) (v : List Float) (e : Ending) (n : ℕ) → (on_ending room j v e).outcome ≡ Done n → Done-by room j (on_ending room j v e) n
-on_ending_lem room j v Whole n h =
+on_ending_lem : (room : ℕ) (j : Job) (v : List Float) (e : Ending) (n : ℕ) → (on_ending room j v e).outcome ≡ Ok n → Done-by room j (on_ending room j v e) n
+on_ending_lem room j v (Ok whole) n h =
     let w = write_proposal j.cells j.links (words_of j v) in
     record { values = v; whole = in_room_lem room w.bytes w.outcome n h }
-on_ending_lem room j v (Thin cell pivot) n h = clash (cc)
+on_ending_lem room j v (Err thin) n h = clash (cc)
 
-proposed : (room : ℕ) (j : Job) (n : ℕ) → (proposed_of room j).outcome ≡ Done n → Done-by room j (proposed_of room j) n
+proposed : (room : ℕ) (j : Job) (n : ℕ) → (proposed_of room j).outcome ≡ Ok n → Done-by room j (proposed_of room j) n
 unfolding proposed_of
 proposed room j n h = go (ltb 12 j.columns) h
   where
-    go : (b : Bool) → (if b then refused 20 0 else on_ending room j (solved_of j).values (solved_of j).ending).outcome ≡ Done n
-        → Done-by room j (if b then refused 20 0 else on_ending room j (solved_of j).values (solved_of j).ending) n
+    go : (b : Bool) → (if b then refused NotProposed else on_ending room j (solved_of j).values (solved_of j).ending).outcome ≡ Ok n
+        → Done-by room j (if b then refused NotProposed else on_ending room j (solved_of j).values (solved_of j).ending) n
     go true h = clash (cc)
     go false h = on_ending_lem room j (solved_of j).values (solved_of j).ending n h
 
 -- the job was read, and its proposal is done
 record Read-by (room : ℕ) (ws : List ℤ) (o : Outcome) (r : Written) (n : ℕ) : Type 0 where
   pub count : ℕ
-  pub read : o ≡ Done count
+  pub read : o ≡ Ok count
   pub done : Done-by room (job_of ws) r n
 
-on_read_lem : (room : ℕ) (ws : List ℤ) (o : Outcome) (n : ℕ) → (on_job_read room ws o).outcome ≡ Done n → Read-by room ws o (on_job_read room ws o) n
-on_read_lem room ws (Refused number place) n h = clash (cc)
-on_read_lem room ws (Done k) n h = record { count = k; read = refl; done = proposed room (job_of ws) n h }
+on_read_lem : (room : ℕ) (ws : List ℤ) (o : Outcome) (n : ℕ) → (on_job_read room ws o).outcome ≡ Ok n → Read-by room ws o (on_job_read room ws o) n
+on_read_lem room ws (Err r) n h = clash (cc)
+on_read_lem room ws (Ok k) n h = record { count = k; read = refl; done = proposed room (job_of ws) n h }
 
 -- ---- the words that are written
 
@@ -103,7 +101,7 @@ module _ (j : Job) (v : List Float) where
       multiplier = λ l h. rw (zero_is (j.cells + l) (omega arith)) (record { natural = refl; small = omega arith });
     }
 
-    fits : {r : Ran} → r ≡ record { words = words_of j v; outcome = Done (j.cells + j.links) } → Fit j r
+    fits : {r : Ran} → r ≡ record { words = words_of j v; outcome = Ok (j.cells + j.links) } → Fit j r
     fits e =
         rw e
         (record {

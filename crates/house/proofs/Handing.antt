@@ -1,11 +1,11 @@
 -- From the pack to the solve and from the values to the pack: the scratch that a job is read into holds its words, and what is written are the
 -- proposal's words.
-use Rattle.std.proofs.Common.{◌≡◌, ℕ, zero, suc, ◌+◌, ◌-◌, ◌<◌, ◌≤◌, Bool, List, ◌∷◌, ◌++◌, length, get_or, take, replicate, ℤ, pos, sym, refl, ap, ◌∙◌, arith, le-ltb, lt-ltb}
+use Rattle.std.proofs.Common.{◌≡◌, ℕ, zero, suc, ◌+◌, ◌-◌, ◌<◌, ◌≤◌, Bool, List, ◌∷◌, ◌++◌, get_or, take, replicate, ℤ, pos, sym, refl, ap, ◌∙◌, arith, le-ltb, lt-ltb, Ok, Err}
 use lib.Ieee.{Float, nan}
 use lib.ListN.{length-replicate, replicate-append-replicate}
 use lib.Seq.{sets}
 use Rattle.std.specs.Prelude.{if◌then◌else◌}
-use Rattle.packs.specs.declared.Outcome.TheVariants.{Done}
+use Rattle.refusals.specs.declared.Refusal.TheVariants.{TooThin, NotProposed}
 use Rattle.packs.specs.Writing.{Written, refused}
 use Rattle.packs.specs.Walking.{packed, padded}
 use Rattle.jobs.specs.Job.{Job}
@@ -13,17 +13,17 @@ use Rattle.jobs.specs.Words.{job_of}
 use Rattle.jobs.specs.Packs.{read_job}
 use Rattle.jobs.proofs.Readings.{read_jobs_allowed, read_jobs_laid}
 use Rattle.jobs.proofs.Handed.{scratch_part}
-use Rattle.factor.specs.declared.Ending.{Ending}
-use Rattle.factor.specs.declared.Ending.TheVariants.{Whole, Thin}
+use Rattle.factor.specs.declared.Thin.{Thin}
+use Rattle.factor.specs.Factor.{Ending}
 use Rattle.house.specs.Known.{Known}
 use Rattle.house.specs.Factoring.{Solved}
 use Rattle.house.specs.Filled.{filled}
 use Rattle.house.specs.Proposal.{solved_of, value_of, words_of, written_of, on_ending, proposed_of, on_job_read, propose_of}
-use Rattle.house.proofs.Fills.{filled_append, length_filled, take_filled}
+use Rattle.house.proofs.Fills.{filled_append, take_filled}
 
 -- ---- the words of the job
 
-module _ (s : List ℕ) {k : ℕ} (e : (read_job s).outcome ≡ Done k) {scratch : List ℤ} (stored : scratch ≡ sets (replicate 2092 (pos 0)) 0 (read_job s).words) where
+module _ (s : List ℕ) {k : ℕ} (e : (read_job s).outcome ≡ Ok k) {scratch : List ℤ} (stored : scratch ≡ sets (replicate 2092 (pos 0)) 0 (read_job s).words) where
   pub part_known : Known (take (k - 0) scratch)
   part_known = rw (scratch_part s e stored) (record { allowed = read_jobs_allowed s k e; laid = read_jobs_laid s k e })
 
@@ -34,20 +34,20 @@ module _ (s : List ℕ) {k : ℕ} (e : (read_job s).outcome ≡ Done k) {scratch
 -- ---- the case that the factoring's ending picks
 
 -- a grid of more than 12 columns
-pub wide_refused : (room : ℕ) (j : Job) → 12 < j.columns → refused 20 0 ≡ proposed_of room j
+pub wide_refused : (room : ℕ) (j : Job) → 12 < j.columns → refused NotProposed ≡ proposed_of room j
 unfolding proposed_of
-wide_refused room j h = ap {B = Written} (λ (b : Bool). if b then refused 20 0 else on_ending room j (solved_of j).values (solved_of j).ending) (sym (lt-ltb 12 j.columns h))
+wide_refused room j h = ap {B = Written} (λ (b : Bool). if b then refused NotProposed else on_ending room j (solved_of j).values (solved_of j).ending) (sym (lt-ltb 12 j.columns h))
 
 module _ (room : ℕ) (j : Job) (few : j.columns ≤ 12) where
   pub narrow_proposed : on_ending room j (solved_of j).values (solved_of j).ending ≡ proposed_of room j
   unfolding proposed_of
   narrow_proposed =
-      ap {B = Written} (λ (b : Bool). if b then refused 20 0 else on_ending room j (solved_of j).values (solved_of j).ending) (sym (le-ltb 12 j.columns few))
+      ap {B = Written} (λ (b : Bool). if b then refused NotProposed else on_ending room j (solved_of j).values (solved_of j).ending) (sym (le-ltb 12 j.columns few))
 
-  pub thin_refused : {cell : ℕ} {x : Float} → (solved_of j).ending ≡ Thin cell x → refused 10 cell ≡ proposed_of room j
+  pub thin_refused : {thin : Thin} → (solved_of j).ending ≡ Err thin → refused (TooThin thin.cell) ≡ proposed_of room j
   thin_refused t = ap {B = Written} (on_ending room j (solved_of j).values) (sym t) ∙ narrow_proposed
 
-  pub whole_written : (solved_of j).ending ≡ Whole → written_of room j (solved_of j).values ≡ proposed_of room j
+  pub whole_written : (solved_of j).ending ≡ Ok tt → written_of room j (solved_of j).values ≡ proposed_of room j
   whole_written t = ap {B = Written} (on_ending room j (solved_of j).values) (sym t) ∙ narrow_proposed
 
 -- what a solve by another name answers and leaves
@@ -80,6 +80,3 @@ pub part_padded : (j : Job) (v : List Float) {n l : ℕ} {ws : List ℤ} → n �
     → ws ≡ filled (λ i. value_of j i (get_or v i nan)) n 0 (replicate 120 (pos 0)) → padded (take (n - 0) ws) l ≡ packed (words_of j v)
 unfolding padded
 part_padded j v en el h ew = ap packed (part_words j v en el h ew)
-
-pub length_rounded : (j : Job) (v : List Float) (n : ℕ) {ws : List ℤ} → ws ≡ filled (λ i. value_of j i (get_or v i nan)) n 0 (replicate 120 (pos 0)) → length ws ≡ 120
-length_rounded j v n e = ap length e ∙ length_filled (λ i. value_of j i (get_or v i nan)) n 0 (replicate 120 (pos 0)) ∙ length-replicate 120 (pos 0)

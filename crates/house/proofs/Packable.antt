@@ -1,10 +1,9 @@
 -- A list of allowed values and multipliers is written as its own numbers, and reads back.
-use Rattle.std.proofs.Common.{◌≡◌, ℕ, ◌+◌, ◌-◌, ◌≤◌, Bool, true, false, ltb, List, length, ℤ, pos, nat_abs, refl, ap, ◌∙◌, subst, arith, lit<, w64, SFits, ltb-false, ltb-true}
+use Rattle.std.proofs.Common.{◌≡◌, ℕ, ◌+◌, ◌-◌, ◌≤◌, Bool, true, false, ltb, List, length, ℤ, pos, nat_abs, refl, ap, ◌∙◌, subst, arith, lit<, w64, SFits, ltb-false, ltb-true, Ok}
 use native.Mathlib.Nat as N
 use lib.ListN.{get_or-eq_default}
 use Rattle.whole.proofs.Fits.{small_fits}
 use Rattle.fields.specs.Table.{values_from}
-use Rattle.packs.specs.declared.Outcome.TheVariants.{Done}
 use Rattle.packs.specs.Promises.{AllWords}
 use Rattle.packs.specs.Reading.{Ran}
 use Rattle.packs.specs.Writing.{Written, in_room, roomed}
@@ -17,10 +16,10 @@ use Rattle.jobs.proofs.Packable.{proposal_packed}
 use Rattle.jobs.proofs.Trips.{proposals_read_back}
 
 module _ {cells links : ℕ} (ws : List ℤ) (p : Proposed cells links ws) where
-  pub proposed_writes : (n : ℕ) × ((write_proposal cells links ws).outcome ≡ Done n)
+  pub proposed_writes : (n : ℕ) × ((write_proposal cells links ws).outcome ≡ Ok n)
   proposed_writes = ((proposal_packed ws p).0, ap (λ (w : Written). as_six w.outcome) (proposal_packed ws p).1)
 
-  pub proposed_packs : (room : ℕ) → in_room room (packed ws) (Done (length (packed ws))) ≡ roomed room (write_proposal cells links ws)
+  pub proposed_packs : (room : ℕ) → in_room room (packed ws) (Ok (length (packed ws))) ≡ roomed room (write_proposal cells links ws)
   proposed_packs room =
       let w = (proposal_packed ws p).1 in
       let l : length (packed ws) ≡ (proposal_packed ws p).0 =
@@ -41,7 +40,7 @@ module _ {cells links : ℕ} (ws : List ℤ) (p : Proposed cells links ws) where
           let h : length ws ≤ i = omega (arith, ltb-false i (cells + links) f, p.count) in
           rw (get_or-eq_default ws (pos 0) h) (small_fits (pos 0) (N.le_refl 0) (lit< tt))
 
-  pub proposed_back : {n : ℕ} {s : List ℕ} → (write_proposal cells links ws).outcome ≡ Done n → s ≡ (write_proposal cells links ws).bytes
-      → read_proposal cells links s ≡ record { words = ws; outcome = Done (cells + links) }
+  pub proposed_back : {n : ℕ} {s : List ℕ} → (write_proposal cells links ws).outcome ≡ Ok n → s ≡ (write_proposal cells links ws).bytes
+      → read_proposal cells links s ≡ record { words = ws; outcome = Ok (cells + links) }
   proposed_back {n} e q =
-      rw q (proposals_read_back cells links ws words_fit n e ∙ ap {B = Ran} (λ (k : ℕ). record { words = ws; outcome = Done k }) p.count)
+      rw q (proposals_read_back cells links ws words_fit n e ∙ ap {B = Ran} (λ (k : ℕ). record { words = ws; outcome = Ok k }) p.count)

@@ -1,5 +1,5 @@
 -- Where a cell of a job stands, and the sizes of what the code makes of it.
-use Rattle.std.proofs.Common.{◌≡◌, ℕ, ◌*◌, ◌/◌, ◌%◌, ◌<◌, ◌≤◌, List, ℤ, ◌*ℤ◌, nat_abs, ◌∙◌, subst, arith, lit<, w64, to_z, of_z}
+use Rattle.std.proofs.Common.{◌≡◌, ℕ, ◌*◌, ◌/◌, ◌%◌, ◌<◌, ◌≤◌, List, ℤ, ◌*ℤ◌, nat_abs, ◌∙◌, arith, lit<, w64, to_z, of_z}
 use native.Mathlib.Nat as N
 use Rattle.whole.proofs.Fits.{small_fits, gives}
 use Rattle.whole.proofs.Magnitude.{bound-+, bound-*}
@@ -20,18 +20,6 @@ module _ {ws : List ℤ} (k : Known ws) where
 
   pub row_of_cell : (i : ℕ) → i < cells_of ws → i / columns_of ws < rows_of ws
   row_of_cell i h = (N.div-lt_iff_lt-mul (columns_some k)).1 (omega (arith, cells_are))
-
-  pub place_of_cell : (i : ℕ) → i % columns_of ws < columns_of ws
-  place_of_cell i = N.mod-lt i (columns_some k)
-
-  pub columns_within : columns_of ws ≤ 120
-  columns_within = N.le_trans (subst (λ (x : ℕ). columns_of ws ≤ x) (N.mul_comm (columns_of ws) (rows_of ws)) (N.le-mul_of_pos_right (columns_of ws) some_rows)) (omega (arith, cells_are, k.allowed.cells_few))
-    where
-      some_rows : 1 ≤ rows_of ws
-      some_rows = omega (arith, k.allowed.order_less)
-
-  pub reach_within : reach (job_of ws) < 5 * columns_of ws
-  reach_within = omega (arith, N.mul-le-mul_right (columns_of ws) k.allowed.order_few, columns_some k)
 
   pub reach_few : columns_of ws ≤ 12 → reach (job_of ws) ≤ 48
   reach_few h = N.le_trans (N.mul-le-mul_right (columns_of ws) k.allowed.order_few) (omega arith)

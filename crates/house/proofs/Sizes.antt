@@ -1,23 +1,12 @@
--- The whole entries of the band: that each fits 64 bits and is held exactly by an f64, and what the code's signed locals read back as.
-use Rattle.std.proofs.Common.{◌≡◌, ℕ, suc, ◌+◌, ◌-◌, ◌*◌, ◌^◌, ◌<◌, ◌≤◌, Bool, true, false, T, eqb, ℤ, pos, negsuc, ◌+ℤ◌, ◌*ℤ◌, nat_abs, sym, subst, ap₂, arith, lit<, le→leb, lt→ltb, to_z-of_z, w64, SFits, to_z, of_z}
+-- The whole entries of the band: that each fits 64 bits, and what the code's signed locals read back as.
+use Rattle.std.proofs.Common.{◌≡◌, ℕ, suc, ◌+◌, ◌-◌, ◌*◌, ◌^◌, ◌<◌, ◌≤◌, Bool, true, false, eqb, ℤ, pos, ◌+ℤ◌, ◌*ℤ◌, nat_abs, ap₂, arith, lit<, w64, SFits, to_z, of_z}
 use native.Mathlib.Nat as N
-use lib.Ieee.{binary64, in_float}
 use Rattle.std.specs.Prelude.{if◌then◌else◌}
 use Rattle.whole.proofs.Fits.{small_fits, fits_by, gives, Adds, partial_small}
 use Rattle.whole.proofs.Magnitude.{bound-+, bound-*}
 use Rattle.rows.specs.Rows.{row_of}
 use Rattle.rows.proofs.Rule.{row_small}
 use Rattle.house.specs.Band.{uses_both, product_term, squares_at, whole_entry}
-
--- ---- an exact cast
-
-held : (x : ℤ) → nat_abs x ≤ 1000000000 → T (in_float binary64 x)
-unfolding in_float
-held (pos n) h = le→leb n (2 ^ 53) (omega arith)
-held (negsuc n) h = lt→ltb n (2 ^ 53) (omega arith)
-
-pub cast_exact : (x : ℤ) → SFits w64 x → nat_abs x ≤ 1000000000 → T (in_float binary64 (to_z w64 (of_z w64 x)))
-cast_exact x f h = subst (λ (z : ℤ). T (in_float binary64 z)) (sym (to_z-of_z f)) (held x h)
 
 -- ---- a product of two signed locals, by the numbers in them
 
@@ -61,14 +50,8 @@ module _ (w k s : ℤ) (hw : nat_abs w ≤ 181000) (hk : nat_abs k ≤ 1000) (hs
   sum_small : nat_abs (w +ℤ k *ℤ s) ≤ 361000
   sum_small = bound-+ w (k *ℤ s) hw smooth_small
 
-  pub smooth_fits : {a b : ℤ} → a ≡ k → b ≡ s → SFits w64 (to_z w64 (of_z w64 a) *ℤ to_z w64 (of_z w64 b))
-  smooth_fits e d = product_fits e d hk hs (lit< tt) (lit< tt) (lit< tt)
-
   pub smooth_is : {a b : ℤ} → a ≡ k → b ≡ s → to_z w64 (of_z w64 (to_z w64 (of_z w64 a) *ℤ to_z w64 (of_z w64 b))) ≡ k *ℤ s
   smooth_is e d = product_is e d hk hs (lit< tt) (lit< tt) (lit< tt)
-
-  pub entry_fits : {a b : ℤ} → a ≡ w → b ≡ k *ℤ s → SFits w64 (to_z w64 (of_z w64 a) +ℤ b)
-  entry_fits e d = fits_by (ap₂ ◌+ℤ◌ (gives e (small_fits w hw (lit< tt))) d) (small_fits (w +ℤ k *ℤ s) sum_small (lit< tt))
 
   pub entry_is : {a b : ℤ} → a ≡ w → b ≡ k *ℤ s → to_z w64 (of_z w64 (to_z w64 (of_z w64 a) +ℤ b)) ≡ w +ℤ k *ℤ s
   entry_is e d = gives (ap₂ ◌+ℤ◌ (gives e (small_fits w hw (lit< tt))) d) (small_fits (w +ℤ k *ℤ s) sum_small (lit< tt))

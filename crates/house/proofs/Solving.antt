@@ -1,14 +1,11 @@
 -- The values of a job follow from its factor, by what the job is.
-use Rattle.std.proofs.Common.{◌≡◌, ℕ, zero, suc, ◌+◌, ◌≤◌, Bool, true, false, List, length, set, replicate, sym, refl, ap, ◌∙◌, subst, arith, length-set}
+use Rattle.std.proofs.Common.{◌≡◌, ℕ, zero, suc, ◌+◌, ◌≤◌, Bool, true, false, List, length, set, replicate, sym, refl, ap, ◌∙◌, subst, arith, length-set, Ok, Err}
 use native.Mathlib.Nat as N
 use lib.Ieee.{Float}
 use lib.Seq.{sets}
 use Rattle.std.specs.Prelude.{if◌then◌else◌}
 use Rattle.jobs.specs.Job.{Job}
-use Rattle.factor.specs.declared.Ending.{Ending}
-use Rattle.factor.specs.declared.Pivot.{Pivot}
-use Rattle.factor.specs.declared.Pivot.TheVariants.{Accepted, Thin as ThinPivot}
-use Rattle.factor.specs.Factor.{Band, Factor, start_of, judged, factor_step, on_pivot, factor_from, factor_of}
+use Rattle.factor.specs.Factor.{Ending, Pivot, Band, Factor, start_of, judged, factor_step, on_pivot, factor_from, factor_of}
 use Rattle.factor.specs.Places.{Starts, Placed}
 use Rattle.factor.specs.Solve.{solved_by}
 use Rattle.factor.proofs.Turns.{start_rises, start_wider}
@@ -61,8 +58,8 @@ pivots_length band z (suc n) j d l =
     go (judged step.pivot) d1 l1 (factor_from band z n (j + 1) d1 l1) (pivots_length band z n (j + 1) d1 l1) ∙ length-set d j step.pivot
   where
     go : (p : Pivot) (d l : List Float) (rest : Factor) → length rest.pivots ≡ length d → length (on_pivot p j d l rest).pivots ≡ length d
-    go (Accepted x) d l rest h = h
-    go (ThinPivot x) d l rest h = refl
+    go (Ok x) d l rest h = h
+    go (Err x) d l rest h = refl
 
 -- what goes out of the rows that were made
 pub handed_out_lem : (d₀ l₀ : List Float) {s : Solved} {e : Ending} {d l v d' l' : List Float} → Solves s e d l v → d' ≡ front d₀ d → l' ≡ front l₀ l → HandsOut s d₀ l₀ e d' l' v

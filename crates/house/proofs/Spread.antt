@@ -192,7 +192,3 @@ module _ (c o : ℕ) (some : 1 ≤ c) where
   turn_next q =
       let e : o + 1 ≡ (o / c + 1) * c + 0 = omega (arith, both, N.add-mul (o / c) 1 c, N.one-mul c) in
       (ap (λ (k : ℕ). k % c) e ∙ place_of (o / c + 1) 0 (omega arith), ap (λ (k : ℕ). k / c) e ∙ turns_of (o / c + 1) 0 (omega arith))
-
--- the entry of an offset within five columns
-pub turn_few : (o columns : ℕ) → 1 ≤ columns → o < 5 * columns → o / columns < 5
-turn_few o columns h k = (N.div-lt_iff_lt-mul h).1 k

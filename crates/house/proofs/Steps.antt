@@ -3,8 +3,7 @@ use Rattle.std.proofs.Common.{◌≡◌, ℕ, zero, suc, ◌+◌, ◌-◌, ◌�
 use lib.Ieee.{Float}
 use lib.ListN.{length-replicate}
 use lib.Seq.{sets, length-sets, sets-eq}
-use Rattle.factor.specs.declared.Pivot.{Pivot}
-use Rattle.factor.specs.Factor.{Band, Made, lowest, start_of, judged, value_of, factor_step}
+use Rattle.factor.specs.Factor.{Pivot, Band, Made, lowest, start_of, judged, value_of, factor_step}
 use Rattle.factor.proofs.Turns.{value_judged, made_length}
 use Rattle.house.specs.declared.factoring.Step.{Step}
 use Rattle.house.specs.Band.{zero64}

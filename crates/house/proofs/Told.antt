@@ -1,16 +1,12 @@
 -- What is known of the words of a job that was read: where they stand, and how large they are.
 use Rattle.std.proofs.Common.{◌≡◌, ℕ, ◌^◌, ◌<◌, ◌≤◌, List, ℤ, nat_abs, lit<, to_z-of_z, w64, to_z, of_z}
 use Rattle.whole.proofs.Fits.{small_fits, gives}
-use Rattle.jobs.specs.Words.{cells_of, order_of, links_of, job_of}
-use Rattle.jobs.specs.Allowed.{Upto}
+use Rattle.jobs.specs.Words.{cells_of, order_of, job_of}
 use Rattle.house.specs.Known.{Known}
 
 -- a word that is passed on
 pub word_is : (x : ℤ) {c : ℕ} → nat_abs x ≤ c → c < 2 ^ 63 → to_z w64 (of_z w64 x) ≡ x
 word_is x h r = to_z-of_z (small_fits x h r)
-
-pub rate_is : (x : ℤ) → Upto 1000000 x → to_z w64 (of_z w64 x) ≡ x
-rate_is x h = word_is x h.small (lit< tt)
 
 module _ {ws : List ℤ} (k : Known ws) where
   pub cells_few : cells_of ws ≤ 120
@@ -18,9 +14,6 @@ module _ {ws : List ℤ} (k : Known ws) where
 
   pub order_few : order_of ws ≤ 4
   order_few = k.allowed.order_few
-
-  pub links_few : links_of ws ≤ 160
-  links_few = k.allowed.links_few
 
   pub constant_small : nat_abs (job_of ws).constant ≤ 1000
   constant_small = k.allowed.constant.small
@@ -40,15 +33,3 @@ module _ {ws : List ℤ} (k : Known ws) where
 
     pub weight_is : {x : ℤ} → x ≡ (job_of ws).weight i → to_z w64 (of_z w64 x) ≡ (job_of ws).weight i
     weight_is e = gives e (small_fits ((job_of ws).weight i) weight_small (lit< tt))
-
-    pub floor_word : Upto 1000000 ((job_of ws).floor i)
-    floor_word = (k.allowed.cell i h).floor
-
-    pub ceiling_word : Upto 1000000 ((job_of ws).ceiling i)
-    ceiling_word = (k.allowed.cell i h).ceiling
-
-    pub floor_is : {x : ℤ} → x ≡ (job_of ws).floor i → to_z w64 (of_z w64 x) ≡ (job_of ws).floor i
-    floor_is e = gives e (small_fits ((job_of ws).floor i) floor_word.small (lit< tt))
-
-    pub ceiling_is : {x : ℤ} → x ≡ (job_of ws).ceiling i → to_z w64 (of_z w64 x) ≡ (job_of ws).ceiling i
-    ceiling_is e = gives e (small_fits ((job_of ws).ceiling i) ceiling_word.small (lit< tt))

@@ -2,8 +2,7 @@
 -- follows from a factor, of a line or of a grid.
 use Rattle.std.specs.Prelude.{◌≡◌, ℕ, List, [], length, take, replicate, slice_index_or, Float}
 use Rattle.std.proofs.lemmas.List.Edits.{sets}
-use Rattle.factor.specs.declared.Ending.{Ending}
-use Rattle.factor.specs.Factor.{Band, Made, judged, factor_of}
+use Rattle.factor.specs.Factor.{Ending, Band, Made, judged, factor_of}
 use Rattle.factor.specs.Solve.{solved_by}
 use Rattle.house.specs.declared.factoring.Step.{Step}
 use Rattle.house.specs.Band.{zero64}

@@ -1,16 +1,15 @@
 -- The house proposal (document 01, "The house proposal", and "Order": "For the house proposal 10 follows the job. Output room comes last, when the
 -- needed length is known."; document 02, W-205: "The house proposal covers grids of at most 12 columns").
-use Rattle.std.specs.Prelude.{ℕ, ◌+◌, List, replicate, ℤ, pos, nat_lt, slice_index_or, unsigned_abs, Float}
+use Rattle.std.specs.Prelude.{ℕ, ◌+◌, List, replicate, ℤ, pos, nat_lt, slice_index_or, unsigned_abs, Float, Ok, Err}
 use Rattle.std.specs.Float.{nan}
 use Rattle.std.specs.Prelude.{if◌then◌else◌}
-use Rattle.packs.specs.declared.Outcome.{Outcome}
-use Rattle.packs.specs.declared.Outcome.TheVariants.{Done, Refused}
+use Rattle.refusals.specs.declared.Refusal.TheVariants.{TooThin, NotProposed}
+use Rattle.packs.specs.Reading.{Outcome}
 use Rattle.packs.specs.Writing.{Written, refused, roomed}
 use Rattle.jobs.specs.Job.{Job}
 use Rattle.jobs.specs.Words.{job_of}
 use Rattle.jobs.specs.Packs.{read_job, write_proposal}
-use Rattle.factor.specs.declared.Ending.{Ending}
-use Rattle.factor.specs.declared.Ending.TheVariants.{Whole, Thin}
+use Rattle.factor.specs.Factor.{Ending}
 use Rattle.house.specs.Filled.{filled}
 use Rattle.house.specs.Band.{band_of, right_of}
 use Rattle.house.specs.Factoring.{Solved, rows_of, solved_with}
@@ -45,18 +44,18 @@ written_of room j v = roomed room (write_proposal j.cells j.links (words_of j v)
 
 -- "10: house proposal: data too thin: cell"
 abbrev pub on_ending : (room : ℕ) → Job → List Float → Ending → Written
-on_ending room j v Whole = written_of room j v
-on_ending room j v (Thin cell pivot) = refused 10 cell
+on_ending room j v (Ok whole) = written_of room j v
+on_ending room j v (Err thin) = refused (TooThin thin.cell)
 
 -- "20 for a wider grid at the house proposal, before 10, place 0"
 unfoldable pub proposed_of : (room : ℕ) → Job → Written
 unfolding solved_of
-proposed_of room j = if nat_lt most_columns j.columns then refused 20 0 else on_ending room j (solved_of j).values (solved_of j).ending
+proposed_of room j = if nat_lt most_columns j.columns then refused NotProposed else on_ending room j (solved_of j).values (solved_of j).ending
 
 -- The proposal for a job pack: the job's own refusals come first.
 abbrev pub on_job_read : (room : ℕ) → List ℤ → Outcome → Written
-on_job_read room ws (Done k) = proposed_of room (job_of ws)
-on_job_read room ws (Refused number place) = refused number place
+on_job_read room ws (Ok k) = proposed_of room (job_of ws)
+on_job_read room ws (Err r) = refused r
 
 abbrev pub propose_of : (room : ℕ) → List ℕ → Written
 propose_of room s = on_job_read room (read_job s).words (read_job s).outcome

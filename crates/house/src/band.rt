@@ -43,10 +43,8 @@ pub fn squares_at(row: &[i64; 5], n: usize, z: usize, i: usize, o: usize) -> i64
     ensures { result ≡ squares_at n z i o }
 {
     let mut total = 0i64;
-    let mut m = 0;
-    while m <= z {
-        total = total + product_term(row, n, z, i, o, m);
-        m += 1;
+    for m in 0..z + 1 {
+        total += product_term(row, n, z, i, o, m);
     }
     total
 }
@@ -91,13 +89,11 @@ pub fn band(words: &[i64], n: usize, z: usize) -> [[f64; 5]; CELLS]
 {
     let row = rows::row_of(z);
     let mut made = [[0.0; 5]; CELLS];
-    let mut i = 0;
-    while i < n {
+    for i in 0..n {
         let w = weight_at(words, i);
         let k = constant_of(words);
         let entries = entries_of(&row, w, k, n, z, i);
         made[i] = entries;
-        i += 1;
     }
     made
 }
@@ -115,11 +111,9 @@ pub fn right(words: &[i64], made: &mut [f64; CELLS])
     ensures { made.new ≡ right_of (job_of words.now) }
 {
     let n = cells_of(words);
-    let mut i = 0;
-    while i < n {
+    for i in 0..n {
         let w = weight_at(words, i);
         let u = crude_at(words, i);
         made[i] = right_at(w, u);
-        i += 1;
     }
 }

@@ -11,9 +11,7 @@ ghost use Rattle.house.specs.Proposal.{line_solved};
 
 use crate::band::band;
 use factor::solve::solve_whole;
-use factor::{
-    CELLS, Ending, Pivot, STARTS, factor_row, lowest_of, put_row, start_at, starts_of, value_of,
-};
+use factor::{CELLS, STARTS, Thin, factor_row, lowest_of, put_row, start_at, starts_of, value_of};
 use jobs::words::cells_of;
 
 // The most multipliers of a row, and the most of all rows.
@@ -30,7 +28,7 @@ pub struct Row {
 
 #[derive(Drop)]
 pub struct Step {
-    pub pivot: Pivot,
+    pub pivot: Result<f64, f64>,
     pub row: Row,
 }
 
@@ -77,28 +75,22 @@ pub fn factor_band(
     starts: &[u16; STARTS],
     d: &mut [f64; CELLS],
     l: &mut [f64],
-) -> Ending
+) -> Result<(), Thin>
     requires { (n ≤ 120) × (z ≤ 4) × Placed z n starts.now l.old }
     ensures { (result ≡ (factor_from (rows_of band) z n 0 d.old l.old).ending) × (d.new ≡ (factor_from (rows_of band) z n 0 d.old l.old).pivots) × (l.new ≡ (factor_from (rows_of band) z n 0 d.old l.old).multipliers) }
 {
-    let mut j = 0;
-    while j < n {
+    for j in 0..n {
         let entries = band[j];
         let step = factor_step(entries, d, l, starts, j, z);
         let row = step.row;
         d[j] = row.pivot;
         let lj = row.multipliers;
         put_made(&lj, l, starts, j, z);
-        let pivot = step.pivot;
-        match pivot {
-            Pivot::Thin(failed) => {
-                return Ending::Thin(j, failed);
-            }
-            Pivot::Accepted(_) => {}
+        if let Err(pivot) = step.pivot {
+            return Err(Thin { cell: j, pivot });
         }
-        j += 1;
     }
-    Ending::Whole
+    Ok(())
 }
 
 // The front of a list, as much as is lent.
@@ -119,7 +111,7 @@ pub fn solve_line_into(
     v: &mut [f64; CELLS],
     d: &mut [f64; CELLS],
     l: &mut [f64; LINE_PLACES],
-) -> Ending
+) -> Result<(), Thin>
     requires { Known words.now × (z ≡ order_of words.now) × (v.old ≡ right_of (job_of words.now)) × (d.old ≡ replicate 120 zero64) × (l.old ≡ replicate 480 zero64) }
     ensures { Solves (line_solved (job_of words.now)) result d.new l.new v.new }
 {
@@ -139,7 +131,7 @@ pub fn solve_line(
     v: &mut [f64; CELLS],
     pivots: &mut [f64],
     multipliers: &mut [f64],
-) -> Ending
+) -> Result<(), Thin>
     requires { Known words.now × (z ≡ order_of words.now) × (v.old ≡ right_of (job_of words.now)) × (length pivots.old ≤ 120) × (length multipliers.old ≤ 480) }
     ensures { HandsOut (line_solved (job_of words.now)) pivots.old multipliers.old result pivots.new multipliers.new v.new }
 {

@@ -14,7 +14,7 @@ ghost use Rattle.house.specs.Held.{below_of, beside_of, entry_by, spread_of, Nar
 
 use crate::band::{entries_of, squares_at, whole_entry};
 use factor::solve::solve_whole;
-use factor::{CELLS, Ending, Pivot, STARTS, factor_row, lowest_of, put_row, start_at, value_of};
+use factor::{CELLS, STARTS, Thin, factor_row, lowest_of, put_row, start_at, value_of};
 use jobs::words::{across_of, cells_of, columns_of, constant_of, order_of, second_of, weight_at};
 
 // The most entries of a row of the band, the most multipliers of a row, and the most of all rows.
@@ -75,12 +75,10 @@ fn spread(columns: usize, z: usize, below: &[f64; 5], beside: &[f64; 5], made: &
     requires { (1 ≤ columns) × (z ≤ 48) × (z < 5 * columns) }
     ensures { made.new ≡ spread_of columns z below.now beside.now made.old }
 {
-    let mut o: usize = 0;
     let mut t: usize = 0;
     let mut past: usize = 0;
-    while o <= z {
+    for o in 0..z + 1 {
         made[o] = entry_at(below, beside, o, t, past);
-        o += 1;
         past += 1;
         if past == columns {
             past = 0;
@@ -116,7 +114,7 @@ fn factor_into(
     j: usize,
     z: usize,
     made: &mut [f64],
-) -> Pivot
+) -> Result<f64, f64>
     requires { (j < 120) × (z < length entries.now) × Placed z (j + 1) starts.now l.old × (made.old ≡ no_multipliers (j - lowest j z)) }
     ensures { (result ≡ judged (factor_step entries.now d.now l.old z j).pivot) × (l.new ≡ sets l.old (start_of z j) (factor_step entries.now d.now l.old z j).multipliers) × (made.new ≡ (factor_step entries.now d.now l.old z j).multipliers) }
 {
@@ -136,7 +134,7 @@ fn grid_step(
     starts: &[u16; STARTS],
     j: usize,
     z: usize,
-) -> Pivot
+) -> Result<f64, f64>
     requires { Narrow words.now z × (j < cells_of words.now) × IsRow (order_of words.now) downs.now × IsRow (across_of words.now) sides.now × Placed z (j + 1) starts.now l.old }
     ensures { (result ≡ judged (factor_step (grid_rows (job_of words.now) j) d.now l.old z j).pivot) × (l.new ≡ sets l.old (start_of z j) (factor_step (grid_rows (job_of words.now) j) d.now l.old z j).multipliers) }
 {
@@ -158,24 +156,19 @@ fn factor_grid(
     starts: &[u16; STARTS],
     d: &mut [f64; CELLS],
     l: &mut [f64],
-) -> Ending
+) -> Result<(), Thin>
     requires { Narrow words.now z × (n ≡ cells_of words.now) × IsRow (order_of words.now) downs.now × IsRow (across_of words.now) sides.now × Placed z n starts.now l.old }
     ensures { (result ≡ (factor_from (grid_rows (job_of words.now)) z n 0 d.old l.old).ending) × (d.new ≡ (factor_from (grid_rows (job_of words.now)) z n 0 d.old l.old).pivots) × (l.new ≡ (factor_from (grid_rows (job_of words.now)) z n 0 d.old l.old).multipliers) }
 {
-    let mut j = 0;
-    while j < n {
+    for j in 0..n {
         let pivot = grid_step(words, downs, sides, d, l, starts, j, z);
         let x = value_of(pivot);
         d[j] = x;
-        match pivot {
-            Pivot::Thin(failed) => {
-                return Ending::Thin(j, failed);
-            }
-            Pivot::Accepted(_) => {}
+        if let Err(pivot) = pivot {
+            return Err(Thin { cell: j, pivot });
         }
-        j += 1;
     }
-    Ending::Whole
+    Ok(())
 }
 
 // How the factoring of a grid ends, with its rows in lent lists of zeros; where it is whole, the values before rounding come in place of the right side.
@@ -186,7 +179,7 @@ pub fn solve_grid(
     d: &mut [f64; CELLS],
     l: &mut [f64; GRID_PLACES],
     v: &mut [f64; CELLS],
-) -> Ending
+) -> Result<(), Thin>
     requires { Narrow words.now z × Starts z (cells_of words.now) starts.now × (d.old ≡ replicate 120 zero64) × (l.old ≡ replicate 4584 zero64) × (v.old ≡ right_of (job_of words.now)) }
     ensures { Solves (grid_solved (job_of words.now)) result d.new l.new v.new }
 {

@@ -13,11 +13,11 @@ use crate::band::right;
 use crate::factoring::solve_line;
 use crate::grid::{GRID_PLACES, solve_grid};
 use crate::rounding::round_out;
-use factor::{CELLS, Ending, starts_of};
+use factor::{CELLS, Thin, starts_of};
 use fields::Field;
 use jobs::job::JOB_WORDS;
 use jobs::words::{ceiling_at, cells_of, columns_of, floor_at, links_of, natural, order_of};
-use packs::Outcome;
+use refusals::Refusal;
 
 // The most columns of a grid that is proposed for.
 pub const COLUMNS: usize = 12;
@@ -37,16 +37,14 @@ pub fn values_into(words: &[i64], n: usize, v: &[f64; CELLS], made: &mut [i64])
     requires { Known words.now × (n ≡ cells_of words.now) × (n ≤ length made.old) }
     ensures { made.new ≡ filled (λ i. value_of (job_of words.now) i (slice_index_or v.now i nan)) n 0 made.old }
 {
-    let mut i = 0;
-    while i < n {
+    for i in 0..n {
         let x = v[i];
         made[i] = value_at(words, i, x);
-        i += 1;
     }
 }
 
 // The multipliers are zeros after the values, which take no words of their own.
-fn write_values(words: &[i64], v: &[f64; CELLS], out: &mut [u8]) -> Outcome
+fn write_values(words: &[i64], v: &[f64; CELLS], out: &mut [u8]) -> Result<usize, Refusal>
     requires { Known words.now }
     ensures { Leaves (written_of (length out.old) (job_of words.now) v.now) out.old result out.new }
 {
@@ -58,18 +56,28 @@ fn write_values(words: &[i64], v: &[f64; CELLS], out: &mut [u8]) -> Outcome
 }
 
 // What is written by how the factoring ended.
-fn on_ending(ending: Ending, words: &[i64], v: &[f64; CELLS], out: &mut [u8]) -> Outcome
+fn on_ending(
+    ending: Result<(), Thin>,
+    words: &[i64],
+    v: &[f64; CELLS],
+    out: &mut [u8],
+) -> Result<usize, Refusal>
     requires { Known words.now }
     ensures { Leaves (on_ending (length out.old) (job_of words.now) v.now ending) out.old result out.new }
 {
-    match ending {
-        Ending::Thin(cell, _) => Outcome::Refused(10, cell),
-        Ending::Whole => write_values(words, v, out),
+    if let Err(thin) = ending {
+        return Err(Refusal::TooThin(thin.cell));
     }
+    write_values(words, v, out)
 }
 
 // The proposal for a line, made in a list of zeros; its factor is not kept.
-fn propose_line(words: &[i64], z: usize, v: &mut [f64; CELLS], out: &mut [u8]) -> Outcome
+fn propose_line(
+    words: &[i64],
+    z: usize,
+    v: &mut [f64; CELLS],
+    out: &mut [u8],
+) -> Result<usize, Refusal>
     requires { Known words.now × (columns_of words.now ≡ 1) × (z ≡ order_of words.now) × (v.old ≡ replicate 120 zero64) }
     ensures { Leaves (on_ending (length out.old) (job_of words.now) (solved_of (job_of words.now)).values (solved_of (job_of words.now)).ending) out.old result out.new }
 {
@@ -81,7 +89,12 @@ fn propose_line(words: &[i64], z: usize, v: &mut [f64; CELLS], out: &mut [u8]) -
 }
 
 // The proposal for a grid, made in a list of zeros, with room for its factor.
-fn propose_grid(words: &[i64], z: usize, v: &mut [f64; CELLS], out: &mut [u8]) -> Outcome
+fn propose_grid(
+    words: &[i64],
+    z: usize,
+    v: &mut [f64; CELLS],
+    out: &mut [u8],
+) -> Result<usize, Refusal>
     requires { Narrow words.now z × (columns_of words.now ≢ 1) × (v.old ≡ replicate 120 zero64) }
     ensures { Leaves (on_ending (length out.old) (job_of words.now) (solved_of (job_of words.now)).values (solved_of (job_of words.now)).ending) out.old result out.new }
 {
@@ -96,7 +109,12 @@ fn propose_grid(words: &[i64], z: usize, v: &mut [f64; CELLS], out: &mut [u8]) -
 
 // The same of a grid of a small reach. A function that is called from one place only is compiled into its caller, with its room on the stack; with this,
 // the one that needs a grid's room is called from two places, and a line does not pay for it.
-fn propose_small_grid(words: &[i64], z: usize, v: &mut [f64; CELLS], out: &mut [u8]) -> Outcome
+fn propose_small_grid(
+    words: &[i64],
+    z: usize,
+    v: &mut [f64; CELLS],
+    out: &mut [u8],
+) -> Result<usize, Refusal>
     requires { Narrow words.now z × (columns_of words.now ≢ 1) × (v.old ≡ replicate 120 zero64) }
     ensures { Leaves (on_ending (length out.old) (job_of words.now) (solved_of (job_of words.now)).values (solved_of (job_of words.now)).ending) out.old result out.new }
 {
@@ -104,7 +122,7 @@ fn propose_small_grid(words: &[i64], z: usize, v: &mut [f64; CELLS], out: &mut [
 }
 
 // The proposal by what the job is. A job that is no grid has one column.
-fn propose_shape(words: &[i64], columns: usize, out: &mut [u8]) -> Outcome
+fn propose_shape(words: &[i64], columns: usize, out: &mut [u8]) -> Result<usize, Refusal>
     requires { Known words.now × (columns ≡ columns_of words.now) × (columns ≤ 12) }
     ensures { Leaves (on_ending (length out.old) (job_of words.now) (solved_of (job_of words.now)).values (solved_of (job_of words.now)).ending) out.old result out.new }
 {
@@ -121,25 +139,22 @@ fn propose_shape(words: &[i64], columns: usize, out: &mut [u8]) -> Outcome
 }
 
 // The proposal for the words of a job that was read.
-pub fn propose_for(words: &[i64], out: &mut [u8]) -> Outcome
+pub fn propose_for(words: &[i64], out: &mut [u8]) -> Result<usize, Refusal>
     requires { Known words.now }
     ensures { Leaves (proposed_of (length out.old) (job_of words.now)) out.old result out.new }
 {
     let columns = columns_of(words);
     if COLUMNS < columns {
-        return Outcome::Refused(20, 0);
+        return Err(Refusal::NotProposed);
     }
     propose_shape(words, columns, out)
 }
 
 // The house proposal for a job pack. A refusal writes nothing; room is tested last.
-pub fn propose(job: &[u8], out: &mut [u8]) -> Outcome
+pub fn propose(job: &[u8], out: &mut [u8]) -> Result<usize, Refusal>
     ensures { Leaves (propose_of (length out.old) job.now) out.old result out.new }
 {
     let mut words = [0i64; JOB_WORDS];
-    let r = packs::reading::read(job, Field::Society, &mut words);
-    match r {
-        Outcome::Done(k) => propose_for(&words[0..k], out),
-        Outcome::Refused(number, place) => Outcome::Refused(number, place),
-    }
+    let k = packs::reading::read(job, Field::Society, &mut words)?;
+    propose_for(&words[0..k], out)
 }

@@ -1,4 +1,5 @@
 -- From the pack to the search and from the search to the answer: which case of the definition the code is in, and what it answers and leaves there.
+use Rattle.std.specs.Prelude.{Ok, Err}
 use Prim.Native.Nat.{ℕ, suc, ◌+◌, ◌-◌, ◌≤◌, ◌<◌, min}
 use mathlib.Core.Path.{◌≡◌, sym, ap, ap₂, ◌∙◌}
 use mathlib.Core.Bool.{true}
@@ -16,8 +17,8 @@ use Rattle.jobs.specs.Job.{Job}
 use Rattle.jobs.specs.Words.{job_of}
 use Rattle.jobs.specs.Packs.{read_job}
 use Rattle.jobs.proofs.Handed.{scratch_part}
-use Rattle.factor.specs.declared.Ending.{Ending}
-use Rattle.factor.specs.declared.Ending.TheVariants.{Whole, Thin}
+use Rattle.factor.specs.declared.Thin.{Thin}
+use Rattle.factor.specs.Factor.{Ending}
 use Rattle.house.specs.Band.{zero64}
 use Rattle.house.specs.Proposal.{solved_of}
 use Rattle.linked.specs.declared.Offer.{Offer}
@@ -32,17 +33,6 @@ unfolding after_pass
 start_is j e = ap {B = State} (λ (v : List Float). state v (replicate 160 zero64)) e
 
 module _ (room given : ℕ) (j : Job) {before : ℕ} (e : before ≡ passes_before j given) where
-  pub first_written : before < given → {s : State} → s ≡ after_pass j (min (suc (passes_before j given)) given) → (out : List ℕ) {out' : List ℕ} {o : Outcome} → Leaves (written_after room j s) out o out'
-      → {a : Offer} → a ≡ counting (before + 1) o → Ends (on_first room given j (passes_before j given)) out a out'
-  first_written h {s} q out l ea =
-      let b = passes_before j given in
-      let under : b < given = omega (arith, e) in
-      let m : min (suc b) given ≡ suc b = omega arith in
-      let p : before + 1 ≡ suc b = omega (arith, e) in
-      let reached : s ≡ after_pass j (suc b) = q ∙ ap {B = State} (after_pass j) m in
-      rw (lt-ltb b given under)
-      (ea ∙ ap₂ counting p (l.0 ∙ ap {B = Outcome} (λ (s : State). (written_after room j s).outcome) reached), l.1 ∙ ap (λ (s : State). sets out 0 (written_after room j s).bytes) reached)
-
   pub none_accepted : given ≤ before → refused 14 given ≡ on_first room given j (passes_before j given)
   none_accepted h =
       let b = passes_before j given in
@@ -61,10 +51,10 @@ module _ (room given : ℕ) (j : Job) where
   narrow_linked h = rw (le-ltb 12 j.columns h)
 
   module _ {e : Ending} (h : e ≡ (solved_of j).ending) where
-    pub thin_linked : {cell : ℕ} {x : Float} → e ≡ Thin cell x → refused 10 cell ≡ on_ending room given j (solved_of j).ending
+    pub thin_linked : {thin : Thin} → e ≡ Err thin → refused 10 thin.cell ≡ on_ending room given j (solved_of j).ending
     thin_linked t = ap {B = Linked} (on_ending room given j) (sym t ∙ h)
 
-    pub whole_linked : e ≡ Whole → on_first room given j (passes_before j given) ≡ on_ending room given j (solved_of j).ending
+    pub whole_linked : e ≡ Ok tt → on_first room given j (passes_before j given) ≡ on_ending room given j (solved_of j).ending
     whole_linked t = ap {B = Linked} (on_ending room given j) (sym t ∙ h)
 
 -- ---- the pack

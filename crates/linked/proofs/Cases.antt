@@ -1,4 +1,5 @@
 -- The cases of the answer, each with what is known in it; and the promises, case by case.
+use Rattle.std.specs.Prelude.{Ok, Err}
 use Prim.Native.Nat.{ℕ, suc, ◌+◌, ◌≤◌, ◌<◌}
 use mathlib.Core.Path.{◌≡◌, refl, sym, ap, subst, ◌∙◌}
 use mathlib.Core.Bool.{Bool, true, false, ◌&&◌}
@@ -8,7 +9,6 @@ use native.Mathlib.Omega.{arith}
 use borrow.Author.Tests.{ltb-true, ltb-false, leb-true, lt-ltb}
 use lib.Dec.{leb, ltb}
 use lib.IntN.{ℤ}
-use lib.Ieee.{Float}
 use lib.ListN.{length}
 use Rattle.std.specs.Prelude.{if◌then◌else◌}
 use Rattle.numbers.proofs.Clash.{clash}
@@ -28,8 +28,8 @@ use Rattle.measure.specs.declared.check.Verdict.{Verdict}
 use Rattle.measure.specs.declared.check.Verdict.TheVariants.{Accepted, Refused as Rejected}
 use Rattle.measure.specs.Check.{values_of, multipliers_of, verdict_of, on_read, proposal_verdict, check_of}
 use Rattle.checked.specs.Answers.{accepted}
-use Rattle.factor.specs.declared.Ending.{Ending}
-use Rattle.factor.specs.declared.Ending.TheVariants.{Whole, Thin}
+use Rattle.factor.specs.declared.Thin.{Thin}
+use Rattle.factor.specs.Factor.{Ending}
 use Rattle.house.specs.Proposal.{solved_of}
 use Rattle.house.proofs.Thin.{thin_cell}
 use Rattle.house.proofs.Fitting.{Roomed, in_room_lem}
@@ -52,13 +52,13 @@ pub record Ready (given : ℕ) (job : List ℕ) : Type 0 where
   pub words : ℕ
   pub read : (read_job job).outcome ≡ Done words
   pub narrow : (job_in job).columns ≤ 12
-  pub whole : (solved_of (job_in job)).ending ≡ Whole
+  pub whole : (solved_of (job_in job)).ending ≡ Ok tt
 
 pub data Case (room given : ℕ) (job : List ℕ) : Linked → Type 0 where
   outside : few_passes given ≡ false → Case room given job (refused 21 0)
   unread : (number place : ℕ) → few_passes given ≡ true → (read_job job).outcome ≡ Refuses number place → Case room given job (refused number place)
   wide : (k : ℕ) → few_passes given ≡ true → (read_job job).outcome ≡ Done k → 12 < (job_in job).columns → Case room given job (refused 20 0)
-  thin : (k cell : ℕ) (x : Float) → few_passes given ≡ true → (read_job job).outcome ≡ Done k → (job_in job).columns ≤ 12 → (solved_of (job_in job)).ending ≡ Thin cell x → Case room given job (refused 10 cell)
+  thin : (k : ℕ) (t : Thin) → few_passes given ≡ true → (read_job job).outcome ≡ Done k → (job_in job).columns ≤ 12 → (solved_of (job_in job)).ending ≡ Err t → Case room given job (refused 10 t.cell)
   none : Ready given job → given ≤ passes_before (job_in job) given → Case room given job (refused 14 given)
   first : Ready given job → passes_before (job_in job) given < given
       → Case room given job (counted (suc (passes_before (job_in job) given)) (written_after room (job_in job) (after_pass (job_in job) (suc (passes_before (job_in job) given)))))
@@ -83,8 +83,8 @@ module _ (room given : ℕ) (job : List ℕ) where
       go false e = none r (ltb-false b given e)
 
   on_ending_lem : (k : ℕ) → few_passes given ≡ true → (read_job job).outcome ≡ Done k → (job_in job).columns ≤ 12 → (e : Ending) → (solved_of (job_in job)).ending ≡ e → Case room given job (on_ending room given (job_in job) e)
-  on_ending_lem k f r c Whole w = on_first_lem (record { some = (both given f).0; few = (both given f).1; words = k; read = r; narrow = c; whole = w })
-  on_ending_lem k f r c (Thin cell x) w = thin k cell x f r c w
+  on_ending_lem k f r c (Ok whole) w = on_first_lem (record { some = (both given f).0; few = (both given f).1; words = k; read = r; narrow = c; whole = w })
+  on_ending_lem k f r c (Err t) w = thin k t f r c w
 
   on_columns : (k : ℕ) → few_passes given ≡ true → (read_job job).outcome ≡ Done k → Case room given job (linked_for room given (job_in job))
   unfolding linked_for
@@ -116,7 +116,7 @@ linked_cases P room given job twenty-one pack twenty ten fourteen proposed = go 
     go (outside f) = twenty-one
     go (unread number place f q) = pack number place q
     go (wide k f q c) = twenty
-    go (thin k cell x f q c w) = ten cell (omega (arith, thin_cell (job_in job) cell x w, (read_jobs_allowed job k q).cells_few))
+    go (thin k t f q c w) = ten t.cell (omega (arith, thin_cell (job_in job) t w, (read_jobs_allowed job k q).cells_few))
     go (none r h) = fourteen r.few
     go (first r h) =
         let b = passes_before (job_in job) given in
@@ -199,7 +199,7 @@ passes_counted room given job n passes e = go (case room given job) e
     go (outside f) e = clash (cc)
     go (unread number place f q) e = clash (cc)
     go (wide k f q c) e = clash (cc)
-    go (thin k cell x f q c w) e = clash (cc)
+    go (thin k t f q c w) e = clash (cc)
     go (none r h) e = clash (cc)
     go (first r h) e = subst (λ (p : ℕ). FirstAccepted (job_in job) given p) (parts room given job r n passes e).1 (first_of (job_in job) given h)
 
@@ -210,7 +210,7 @@ pass_written room given job n passes e = go (case room given job) e
     go (outside f) e = clash (cc)
     go (unread number place f q) e = clash (cc)
     go (wide k f q c) e = clash (cc)
-    go (thin k cell x f q c w) e = clash (cc)
+    go (thin k t f q c w) e = clash (cc)
     go (none r h) e = clash (cc)
     go (first r h) e = written_then room given job r n passes e
 
@@ -221,7 +221,7 @@ linked_accepted room given job n passes e = go (case room given job) e
     go (outside f) e = clash (cc)
     go (unread number place f q) e = clash (cc)
     go (wide k f q c) e = clash (cc)
-    go (thin k cell x f q c w) e = clash (cc)
+    go (thin k t f q c w) e = clash (cc)
     go (none r h) e = clash (cc)
     go (first r h) e =
         let v = verdict_then room given job r n passes e in
@@ -239,7 +239,7 @@ more_passes_same room given more job h l m answered = go (case room given job) a
     go (outside f) other = let t = passes_few room given job h (N.le_trans l m) in clash (cc)
     go (unread number place f q) other = sym (pack_refused room more job (N.le_trans h l) m q)
     go (wide k f q c) other = read_linked room more job (N.le_trans h l) m q ∙ sym (wide_linked room more (job_in job) c)
-    go (thin k cell x f q c w) other =
+    go (thin k t f q c w) other =
         read_linked room more job (N.le_trans h l) m q ∙ sym (thin_linked room more (job_in job) refl w ∙ narrow_linked room more (job_in job) c)
     go (none r q) other = absurd (other refl)
     go (first r q) other =
@@ -258,7 +258,7 @@ fourteen_exactly room given job place = (λ e. go (case room given job) e, back_
         let near = subst (Near 20920) q (job_read_near job) in
         absurd (omega (arith, near.1))
     go (wide k f q c) e = let q : ◌≡◌ {A = ℕ} 20 14 = cc in absurd (omega arith)
-    go (thin k cell x f q c w) e = let q : ◌≡◌ {A = ℕ} 10 14 = cc in absurd (omega arith)
+    go (thin k t f q c w) e = let q : ◌≡◌ {A = ℕ} 10 14 = cc in absurd (omega arith)
     go (none r h) e =
         let same : given ≡ place = cc in
         record { some = r.some; few = r.few; words = r.words; read = r.read; narrow = r.narrow; whole = r.whole; none = none_of (job_in job) given h; place_is = sym same }

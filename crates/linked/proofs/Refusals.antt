@@ -93,7 +93,7 @@ module _ (room given : ℕ) (job : List ℕ) (h : 1 ≤ given) (l : given ≤ 20
   by_case (outside f) = let t = passes_few room given job h l in clash (cc)
   by_case (unread a b f q) = alike a b (ap {B = Written} (onHouseRead room (read_job job).words) q) refl
   by_case (wide k f q c) = alike 20 0 (house_read q ∙ sym (wide_refused room (job_in job) c)) refl
-  by_case (thin k cell x f q c w) = alike 10 cell (house_read q ∙ sym (thin_refused room (job_in job) c w)) refl
+  by_case (thin k t f q c w) = alike 10 t.cell (house_read q ∙ sym (thin_refused room (job_in job) c w)) refl
   by_case (none r b) = (λ e. absurd (not_None (let x : 14 ≡ number = cc in sym x)), λ e. absurd (house_proposes r e))
   by_case (first r b) =
       let s = after_pass (job_in job) (suc (passes_before (job_in job) given)) in

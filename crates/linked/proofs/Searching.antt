@@ -26,9 +26,6 @@ module _ {ws : List ℤ} {n links z : ℕ} {d l : List Float} {starts : List ℕ
   pub counted : Counted ws n links
   counted = record { known = S.factored.known; n_is = S.factored.n_is; links_is = S.links_is }
 
-  pub pass_given : Counted ws n links × (z ≤ 120) × Placed z n starts l
-  pass_given = (counted, omega (arith, S.factored.z_few), S.factored.placed)
-
   module _ {v y : List Float} (p : ℕ) (e : state v y ≡ after_pass (job_of ws) p) where
     pub passed_is : {s : State} → s ≡ pass_from d l z n (link_of (job_of ws)) links 0 (state v y) → s ≡ after_pass (job_of ws) (suc p)
     unfolding after_pass

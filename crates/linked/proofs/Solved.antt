@@ -10,7 +10,7 @@ use lib.ListN.{length, take, drop_of_length-le, take-append-drop}
 use lib.Seq.{sets, sets-eq}
 use Rattle.jobs.specs.Job.{Job}
 use Rattle.jobs.specs.Words.{cells_of, columns_of, order_of, job_of}
-use Rattle.factor.specs.declared.Ending.{Ending}
+use Rattle.factor.specs.Factor.{Ending}
 use Rattle.factor.specs.Places.{Starts, Placed}
 use Rattle.factor.proofs.Turns.{factor_length}
 use Rattle.house.specs.Known.{Known}

@@ -1,11 +1,10 @@
 -- What is promised of the proposal that honours links.
-use Rattle.std.specs.Prelude.{ℕ, ◌+◌, ◌≤◌, ◌<◌, ◌≡◌, ◌⊎◌, true, false, List, ℤ, length}
+use Rattle.std.specs.Prelude.{ℕ, ◌+◌, ◌≤◌, ◌<◌, ◌≡◌, ◌⊎◌, true, false, List, ℤ, length, Ok}
 use Rattle.packs.specs.declared.Outcome.TheVariants.{Done, Refused as Refuses}
 use Rattle.jobs.specs.Job.{Job}
 use Rattle.jobs.specs.Packs.{job_in, read_job, read_proposal}
 use Rattle.measure.specs.declared.check.Verdict.TheVariants.{Accepted, Refused as Rejected}
 use Rattle.measure.specs.Check.{check_of}
-use Rattle.factor.specs.declared.Ending.TheVariants.{Whole}
 use Rattle.house.specs.Proposal.{solved_of, most_columns, propose_of}
 use Rattle.passes.specs.Hildreth.{State, after_pass}
 use Rattle.linked.specs.declared.Offer.TheVariants.{Proposed, Refused}
@@ -53,7 +52,7 @@ pub record NoneAccepted (job : List ℕ) (given place : ℕ) : Type 0 where
   pub words : ℕ
   pub read : (read_job job).outcome ≡ Done words
   pub narrow : (job_in job).columns ≤ most_columns
-  pub whole : (solved_of (job_in job)).ending ≡ Whole
+  pub whole : (solved_of (job_in job)).ending ≡ Ok tt
   pub none : (p : ℕ) → 1 ≤ p → p ≤ given → accepted_at (job_in job) p ≡ false
   pub place_is : place ≡ given
 

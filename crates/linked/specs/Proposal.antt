@@ -1,6 +1,6 @@
 -- Document 02, W-207: the proposal after each pass, the first that the check accepts, and the answer, with its refusals in their order: 21, the job pack's,
 -- 20, 10, 14, and room last.
-use Rattle.std.specs.Prelude.{ℕ, suc, ◌-◌, Bool, not, ◌&&◌, ◌≡◌, List, [], leb, ltb, ℤ, pos, get_or, Float}
+use Rattle.std.specs.Prelude.{ℕ, suc, ◌-◌, Bool, not, ◌&&◌, ◌≡◌, List, [], leb, ltb, ℤ, pos, get_or, Float, Ok, Err}
 use Rattle.std.proofs.lemmas.List.Edits.{sets}
 use Rattle.std.specs.Float.{nan}
 use Rattle.std.specs.Prelude.{if◌then◌else◌}
@@ -13,8 +13,7 @@ use Rattle.jobs.specs.Packs.{read_job, write_proposal}
 use Rattle.measure.specs.declared.check.Verdict.{Verdict}
 use Rattle.measure.specs.Check.{lowest_failing, verdict_for}
 use Rattle.checked.specs.Answers.{accepted}
-use Rattle.factor.specs.declared.Ending.{Ending}
-use Rattle.factor.specs.declared.Ending.TheVariants.{Whole, Thin}
+use Rattle.factor.specs.Factor.{Ending}
 use Rattle.house.specs.Filled.{filled}
 use Rattle.house.specs.Rounding.{rounded_out}
 use Rattle.house.specs.Proposal.{solved_of, most_columns, words_of}
@@ -73,8 +72,8 @@ on_first room given j before = if ltb before given then counted (suc before) (wr
 
 -- "10 as at the house proposal"
 abbrev pub on_ending : (room given : ℕ) → Job → Ending → Linked
-on_ending room given j Whole = on_first room given j (passes_before j given)
-on_ending room given j (Thin cell pivot) = refused 10 cell
+on_ending room given j (Ok whole) = on_first room given j (passes_before j given)
+on_ending room given j (Err thin) = refused 10 thin.cell
 
 -- "20 … as at the house proposal": before 10, place 0
 unfoldable pub linked_for : (room given : ℕ) → Job → Linked

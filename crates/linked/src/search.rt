@@ -11,7 +11,7 @@ ghost use Rattle.linked.specs.Given.{Factored, Starting};
 
 use crate::Offer;
 use crate::rounded::{accepts, write_after};
-use factor::{CELLS, Ending, STARTS, starts_of};
+use factor::{CELLS, STARTS, Thin, starts_of};
 use house::band::right;
 use house::factoring::{LINE_PLACES, solve_line_into};
 use house::grid::{GRID_PLACES, solve_grid};
@@ -35,14 +35,11 @@ fn search(
     requires { Starting words.now n links z d.now l.now starts.now given v.old y.old }
     ensures { (result ≡ passes_before (job_of words.now) given) × (state v.new y.new ≡ after_pass (job_of words.now) (min (suc (passes_before (job_of words.now) given)) given)) }
 {
-    let mut p = 0;
-    while p < given {
+    for p in 0..given {
         pass(words, n, links, z, d, l, starts, v, y);
-        let done = accepts(words, n, links, v, y);
-        if done {
+        if accepts(words, n, links, v, y) {
             return p;
         }
-        p += 1;
     }
     given
 }
@@ -87,7 +84,7 @@ fn improve_from(
 
 // The offer by how the factoring ended.
 fn on_ending(
-    ending: Ending,
+    ending: Result<(), Thin>,
     words: &[i64],
     n: usize,
     z: usize,
@@ -102,11 +99,11 @@ fn on_ending(
     ensures { Ends (on_ending (length out.old) given (job_of words.now) (solved_of (job_of words.now)).ending) out.old result out.new }
 {
     match ending {
-        Ending::Thin(cell, _) => Offer::Refused {
+        Err(thin) => Offer::Refused {
             number: 10,
-            place: cell,
+            place: thin.cell,
         },
-        Ending::Whole => improve_from(words, n, z, d, l, starts, given, v, out),
+        Ok(()) => improve_from(words, n, z, d, l, starts, given, v, out),
     }
 }
 

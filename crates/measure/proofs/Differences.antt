@@ -8,13 +8,12 @@ use native.Mathlib.Nat as N
 use native.Mathlib.Omega.{arith}
 use lib.Dec.{T, lit<, leb→le, ltb, ltb→lt}
 use lib.IntN.{ℤ, pos, negsuc, nat_abs, ◌+ℤ◌, ◌-ℤ◌, ◌*ℤ◌}
-use lib.ListN.{length}
 use mir.Syntax.{w64}
 use mir.Val.{SFits}
 use Rattle.whole.specs.Sum.{sumℕ, only, coefficient_of}
 use Rattle.whole.proofs.Sums.{sum_ext}
 use Rattle.whole.proofs.Magnitude.{bound-*}
-use Rattle.whole.proofs.Fits.{small_fits, gives, Adds, partial_small}
+use Rattle.whole.proofs.Fits.{small_fits, gives, Adds}
 use Rattle.certificate.specs.Differences.{along, form_at}
 use Rattle.certificate.proofs.Differences.{shift_unseen, difference_size}
 use Rattle.jobs.specs.Words.{word_at}
@@ -48,9 +47,6 @@ module _ {row : List ℤ} {z stride i : ℕ} {v : List ℤ} (D : Differs row z s
     room = omega (arith, D.coefficients.few);
   }
 
-  pub difference_cell : (m : ℕ) → m ≤ z → i + m * stride < length v
-  difference_cell m h = omega (arith, N.mul-le-mul_right stride h, D.inside)
-
   module _ {m : ℕ} (h : m ≤ z) where
     pub difference_term_fits : SFits w64 (word_at row m *ℤ word_at v (i + m * stride))
     difference_term_fits = small_fits (word_at row m *ℤ word_at v (i + m * stride)) (difference_adds.small m (omega arith)) (lit< tt)
@@ -58,12 +54,6 @@ module _ {row : List ℤ} {z stride i : ℕ} {v : List ℤ} (D : Differs row z s
     -- the product of the code
     pub difference_term_is : read (word_at row m) *ℤ read (word_at v (i + m * stride)) ≡ word_at row m *ℤ word_at v (i + m * stride)
     difference_term_is = ap₂ ◌*ℤ◌ (coefficient_read D.coefficients h) (rate_read (D.rates m h))
-
-  pub difference_fits : SFits w64 (form_at (word_at row) z stride i (word_at v))
-  difference_fits =
-      let h : nat_abs (form_at (word_at row) z stride i (word_at v)) ≤ 5000000000
-      = N.le_trans (partial_small difference_adds (suc z) (N.le_refl (suc z))) (omega (arith, D.coefficients.few)) in
-      small_fits (form_at (word_at row) z stride i (word_at v)) h (lit< tt)
 
 -- ---- the rows of the orders
 

@@ -10,7 +10,7 @@ use native.Mathlib.Omega.{arith}
 use borrow.Author.Rules.{rules}
 use borrow.Author.Tests.{lt-ltb}
 use lib.Dec.{lit<, leb→le, ltb}
-use lib.IntN.{ℤ, pos, nat_abs, ◌+ℤ◌, ◌*ℤ◌, zero-*ℤ}
+use lib.IntN.{ℤ, pos, nat_abs, ◌+ℤ◌, ◌*ℤ◌}
 use lib.ListN.{length, replicate, length-replicate}
 use mir.Syntax.{w64}
 use mir.Val.{SFits, to_z}
@@ -38,10 +38,6 @@ use Rattle.measure.specs.OnWords.{fit_on, loss_on, rough_on, smooth_on}
 use Rattle.measure.proofs.Differences.{row_coefficients, row_coefficient, row_form, difference_small, difference_less}
 use Rattle.measure.proofs.Losses.{fit_at_most}
 use Rattle.measure.proofs.Scattered.{terms_small, added_none, added_by, added_then}
-
--- where a difference ends that may run over the end of a grid's row
-pub end_inside : (width : ℕ) {row : List ℤ} {z stride i : ℕ} {v : List ℤ} → Differs row z stride i v → i % width + z * stride < length v
-end_inside width {row} {z} {stride} {i} D = omega (arith, N.mod-le i width, D.inside)
 
 -- ---- one direction, by the row of its order
 
@@ -183,13 +179,6 @@ module _ {v : List ℤ} {n z stride width : ℕ} {k : ℤ} {parts₀ : List ℤ}
 
   pub times_fits : SFits w64 (k *ℤ rough)
   times_fits = small_fits (k *ℤ rough) (bound-* k rough S.constant rough_at_most) (lit< tt)
-
--- with the constant 0 nothing counts, and nothing is added
-pub none_counted : (k : ℤ) → k ≡ pos 0 → (x : ℤ) → pos 0 ≡ k *ℤ x
-none_counted k e x = sym (ap (λ (y : ℤ). y *ℤ x) e ∙ zero-*ℤ x)
-
-pub none_added : (k : ℤ) → k ≡ pos 0 → (g : ℕ → ℤ) (parts : List ℤ) → Added (λ i. pos 2 *ℤ k *ℤ g i) parts parts
-none_added k e g parts = added_none parts (λ i. ap (λ (y : ℤ). pos 2 *ℤ y *ℤ g i) e ∙ zero-*ℤ (g i))
 
 -- ---- two directions, one after the other
 

@@ -10,9 +10,7 @@ use lib.ListN.{length, take, replicate, length-replicate}
 use lib.Seq.{sets, length-sets}
 use Rattle.numbers.proofs.Clash.{clash}
 use Rattle.fields.specs.Table.{values_from}
-use Rattle.packs.specs.declared.Outcome.{Outcome}
-use Rattle.packs.specs.declared.Outcome.TheVariants.{Done, Refused as Refuses}
-use Rattle.packs.specs.Reading.{Ran, Hands, read_from}
+use Rattle.packs.specs.Reading.{Outcome, Ran, read_from}
 use Rattle.packs.proofs.Near.{Near}
 use Rattle.jobs.specs.Words.{cells_of, links_of, job_of}
 use Rattle.jobs.specs.Allowed.{Allowed, Laid}
@@ -21,13 +19,13 @@ use Rattle.jobs.proofs.Near.{job_read_near}
 use Rattle.jobs.proofs.Steps.{read_whole}
 use Rattle.jobs.proofs.Handed.{held_room, held_part}
 use Rattle.jobs.proofs.Readings.{six_done, read_jobs_allowed, read_jobs_laid, read_words_counted, read_words_few, read_proposals_proposed}
-use Rattle.measure.specs.declared.check.Verdict.{Verdict}
-use Rattle.measure.specs.declared.check.Verdict.TheVariants.{Refused}
-use Rattle.measure.specs.declared.opening.Opened.{Opened}
-use Rattle.measure.specs.declared.opening.Opened.TheVariants.{Both, Unread}
-use Rattle.measure.specs.Check.{on_read, check_of, verdict_for}
-use Rattle.measure.specs.Opening.{if_read, proposal_words, opened_for, opened_with, opened_of}
+use Rattle.measure.specs.declared.opening.Counts.{Counts}
+use Rattle.measure.specs.Check.{Verdict, on_read, check_of, verdict_for}
+use Rattle.measure.specs.Opening.{Opened, if_read, proposal_words, opened_for, opened_with, opened_of}
 use Rattle.measure.specs.Given.{Given}
+use Rattle.std.specs.Prelude.{Ok, Err}
+use Rattle.refusals.specs.declared.Refusal.{Refusal}
+use Rattle.refusals.specs.Refusals.{number_of}
 
 -- ---- a list stored over m zeros
 
@@ -35,17 +33,6 @@ pub lent_length : (m : ℕ) (ws l : List ℤ) → l ≡ sets (replicate m (pos 0
 lent_length m ws l e = sym (ap length e ∙ length-sets (replicate m (pos 0)) 0 ws ∙ length-replicate m (pos 0))
 
 -- ---- a proposal for a job's words
-
--- with the counts that the code has
-pub proposal_handed : {ws : List ℤ} → Allowed (job_of ws) → Laid ws → {n links : ℕ} → n ≡ cells_of ws → links ≡ links_of ws → (proposal : List ℕ) {o : Outcome} (l₀ : List ℤ) {l : List ℤ}
-    → Hands (read_proposal n links proposal) l₀ o l → Hands (read_proposal (cells_of ws) (links_of ws) proposal) l₀ o l
-proposal_handed A L en el proposal {o} l₀ {l} h = subst₂ (λ (a b : ℕ). Hands (read_proposal a b proposal) l₀ o l) en el h
-
-pub opened_done : (k : ℕ) {r o : Outcome} {m : ℕ} → r ≡ Done m → r ≡ o → Both k m ≡ opened_for k o
-opened_done k u e = ap (opened_for k) (sym u ∙ e)
-
-pub opened_refused : (k : ℕ) {r o : Outcome} {number place : ℕ} → r ≡ Refuses number place → r ≡ o → Unread number place ≡ opened_for k o
-opened_refused k u e = ap (opened_for k) (sym u ∙ e)
 
 -- ---- a job, then its proposal
 
@@ -58,13 +45,10 @@ module _ (job proposal : List ℕ) where
 
   -- with the words that the code has
   module _ {o : Outcome} (l₀ : List ℤ) {l : List ℤ} (long : length l₀ ≡ 2092) (eo : o ≡ (read_job job).outcome) (q : l ≡ sets l₀ 0 ws) where
-    pub job_refused : {number place : ℕ} → o ≡ Refuses number place → Unread number place ≡ opened_of job proposal
+    pub job_refused : {r : Refusal} → o ≡ Err r → Err r ≡ opened_of job proposal
     job_refused u = ap (λ (x : Outcome). opened_with x read.outcome) (sym u ∙ eo)
 
-    pub refused_left : {number place : ℕ} → o ≡ Refuses number place → (p : List ℤ) → p ≡ sets p 0 (proposal_words job proposal)
-    refused_left u p = ap (λ (x : Outcome). sets p 0 (if_read x read.words)) (sym u ∙ eo)
-
-    module _ {k : ℕ} (u : o ≡ Done k) where
+    module _ {k : ℕ} (u : o ≡ Ok k) where
       few_words : k ≤ 2092
       few_words = omega (arith, read_words_counted job k (sym eo ∙ u), read_words_few job k (sym eo ∙ u))
 
@@ -90,33 +74,39 @@ module _ (job proposal : List ℕ) where
 -- ---- both packs
 
 record BothDone (o p : Outcome) (k m : ℕ) : Type 0 where
-  first : o ≡ Done k
-  second : p ≡ Done m
+  first : o ≡ Ok k
+  second : p ≡ Ok m
 
-both_done : (o p : Outcome) {k m : ℕ} → opened_with o p ≡ Both k m → BothDone o p k m
-both_done (Done k) (Done m) e = record { first = cc; second = cc }
-both_done (Done k) (Refuses number place) e = clash (cc)
-both_done (Refuses number place) p e = clash (cc)
+both_done : (o p : Outcome) {c : Counts} → opened_with o p ≡ Ok c → BothDone o p c.words c.values
+both_done (Ok k) (Ok m) e = record { first = cc; second = cc }
+both_done (Ok k) (Err r) e = clash (cc)
+both_done (Err r) p e = clash (cc)
 
-unread_as : (o p : Outcome) (v : Verdict) {number place : ℕ} → opened_with o p ≡ Unread number place → Refused number place ≡ on_read o (on_read p v)
-unread_as (Done k) (Done m) v e = clash (cc)
-unread_as (Done k) (Refuses number place) v e = cc
-unread_as (Refuses number place) p v e = cc
+unread_as : (o p : Outcome) (v : Verdict) {r : Refusal} → opened_with o p ≡ Err r → Err r ≡ on_read o (on_read p v)
+unread_as (Ok k) (Ok m) v e = clash (cc)
+unread_as (Ok k) (Err r) v e = cc
+unread_as (Err r) p v e = cc
 
-pub unread_refused : (job proposal : List ℕ) {number place : ℕ} → opened_of job proposal ≡ Unread number place → Refused number place ≡ check_of job proposal
+pub unread_refused : (job proposal : List ℕ) {r : Refusal} → opened_of job proposal ≡ Err r → Err r ≡ check_of job proposal
 unread_refused job proposal e = unread_as (read_job job).outcome (read job proposal).outcome (verdict_for (job_of (ws job proposal)) (read job proposal).words) e
 
 -- a pack that does not read is refused with 1 to 5, or with 6
-unread_with : (o p : Outcome) {number place : ℕ} → Near 20920 o → opened_with o (as_six p) ≡ Unread number place → (1 ≤ number) × (number ≤ 6)
-unread_with (Done k) (Done m) n e = clash (cc)
-unread_with (Done k) (Refuses a b) {number} n e = let q : 6 ≡ number = cc in (omega (arith, q), omega (arith, q))
-unread_with (Refuses a b) p {number} n e = let q : a ≡ number = cc in (omega (arith, q, n.0), omega (arith, q, n.1))
+unread_with : (o p : Outcome) {r : Refusal} → Near 20920 o → opened_with o (as_six p) ≡ Err r → (1 ≤ number_of r) × (number_of r ≤ 6)
+unread_with (Ok k) (Ok m) n e = clash (cc)
+unread_with (Ok k) (Err b) {r} n e = let q : 6 ≡ number_of r = cc in (omega (arith, q), omega (arith, q))
+unread_with (Err b) p {r} n e = let q : number_of b ≡ number_of r = cc in (omega (arith, q, n.0), omega (arith, q, n.1))
 
-pub unread_number : (job proposal : List ℕ) {number place : ℕ} → opened_of job proposal ≡ Unread number place → (1 ≤ number) × (number ≤ 6)
+pub unread_number : (job proposal : List ℕ) {r : Refusal} → opened_of job proposal ≡ Err r → (1 ≤ number_of r) × (number_of r ≤ 6)
 unread_number job proposal e = unread_with (read_job job).outcome (read_from (values_from (cells_of (ws job proposal)) (links_of (ws job proposal))) proposal).outcome (job_read_near job) e
 
 -- with what was left in the lent words
-module _ (job proposal : List ℕ) {k m : ℕ} (e : opened_of job proposal ≡ Both k m) where
+module _ (job proposal : List ℕ) {c : Counts} (e : opened_of job proposal ≡ Ok c) where
+  abbrev k : ℕ
+  k = c.words
+
+  abbrev m : ℕ
+  m = c.values
+
   both : BothDone (read_job job).outcome (read job proposal).outcome k m
   both = both_done (read_job job).outcome (read job proposal).outcome e
 

@@ -4,11 +4,10 @@ use Prim.Native.Nat.{ℕ, ◌<◌}
 use mathlib.Core.List.{List}
 use native.Mathlib.Omega.{arith}
 use lib.IntN.{ℤ}
-use lib.ListN.{length}
-use Rattle.jobs.specs.Words.{cells_of, links_of, start_of, job_of}
+use Rattle.jobs.specs.Words.{links_of, start_of, job_of}
 use Rattle.jobs.specs.Allowed.{Allowed, Laid}
 use Rattle.jobs.proofs.Places.{link_inside}
-use Rattle.measure.specs.Given.{Given, LinkAt}
+use Rattle.measure.specs.Given.{LinkAt}
 
 module _ {ws : List ℤ} (A : Allowed (job_of ws)) (L : Laid ws) where
   pub link_at_lem : (l : ℕ) → l < links_of ws → LinkAt ws (start_of ws l)
@@ -20,6 +19,3 @@ module _ {ws : List ℤ} (A : Allowed (job_of ws)) (L : Laid ws) where
     coefficient = λ m k. ((A.link l h).term m k).coefficient_small;
     bound = (A.link l h).bound;
   }
-
-pub value_inside : {ws ps : List ℤ} → Given ws ps → (i : ℕ) → i < cells_of ws → i < length ps
-value_inside {ws} {ps} G i h = omega (arith, G.proposed.count)

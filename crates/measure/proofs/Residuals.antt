@@ -1,6 +1,6 @@
 -- The residual of a cell: each part by its bound, so that a residual is at most 7·10^12.
 use Prim.Native.Nat.{ℕ, ◌≤◌}
-use mathlib.Core.Path.{◌≡◌, refl, sym, ap, ap₂, subst, ◌∙◌}
+use mathlib.Core.Path.{◌≡◌, refl, sym, ap, ap₂, subst}
 use mathlib.Core.List.{List}
 use native.Mathlib.Nat as N
 use lib.Dec.{lit<}
@@ -13,7 +13,6 @@ use Rattle.jobs.specs.Words.{word_at, job_of}
 use Rattle.jobs.specs.Allowed.{Upto}
 use Rattle.tally.proofs.Locals.{read, rate_read, weight_read}
 use Rattle.measure.specs.Given.{Slopes, ResidualAt}
-use Rattle.measure.specs.OnWords.{residual_with}
 
 module _ {w v u part : ℤ} (h : Slopes w v u part) where
   ww : nat_abs (pos 2 *ℤ w) ≤ 2000
@@ -60,9 +59,6 @@ module _ {w v u part : ℤ} (h : Slopes w v u part) where
   slopes_call : Slopes (read w) (read v) (read u) (read part)
   slopes_call = rw (weight_read h.w_in, rate_read h.v_in, rate_read h.u_in, part_read) h
 
-  slopes_result : {r : ℤ} → r ≡ pos 2 *ℤ read w *ℤ (read v -ℤ read u) +ℤ read part → read r ≡ pos 2 *ℤ w *ℤ (v -ℤ u) +ℤ part
-  slopes_result q = gives (q ∙ ap₂ ◌+ℤ◌ (ap₂ ◌*ℤ◌ ww_is far_is) part_read) all_fits
-
 -- with the words that the code has
 module _ {ws ps : List ℤ} {i : ℕ} {part : ℤ} (R : ResidualAt ws ps i part) {w u : ℤ} (ew : w ≡ (job_of ws).weight i) (eu : u ≡ (job_of ws).crude i) where
   pub slopes : Slopes w (word_at ps i) u part
@@ -75,6 +71,3 @@ module _ {ws ps : List ℤ} {i : ℕ} {part : ℤ} (R : ResidualAt ws ps i part)
 
   pub residual_call : Slopes (read w) (read (word_at ps i)) (read u) (read part)
   residual_call = slopes_call slopes
-
-  pub residual_result : {r : ℤ} → r ≡ pos 2 *ℤ read w *ℤ (read (word_at ps i) -ℤ read u) +ℤ read part → read r ≡ residual_with ws ps i part
-  residual_result q = slopes_result slopes q ∙ ap₂ (λ (w u : ℤ). pos 2 *ℤ w *ℤ (word_at ps i -ℤ u) +ℤ part) ew eu

@@ -3,10 +3,8 @@ use Prim.Native.Nat.{ℕ, ◌+◌, ◌≤◌, ◌<◌}
 use mathlib.Core.Path.{◌≡◌, refl, sym, ap, subst, ◌∙◌}
 use mathlib.Core.List.{List}
 use native.Mathlib.Nat as N
-use native.Mathlib.Omega.{arith}
-use lib.Dec.{T, lit<, leb→le}
+use lib.Dec.{lit<, leb→le}
 use lib.IntN.{ℤ, pos, nat_abs, ◌+ℤ◌, ◌-ℤ◌, ◌*ℤ◌}
-use lib.ListN.{length}
 use lib.Signed.{◌≤ℤ◌, le_z, le_z_yes}
 use mir.Syntax.{w64}
 use mir.Val.{to_z}
@@ -18,7 +16,7 @@ use Rattle.numbers.proofs.Both.{both}
 use Rattle.jobs.specs.Words.{word_at, cells_of, links_of, job_of}
 use Rattle.tally.specs.declared.term.Supplied.{Supplied}
 use Rattle.tally.specs.declared.Tally.{Tally}
-use Rattle.tally.specs.Supplied.{limit, supplied, amount_of}
+use Rattle.tally.specs.Supplied.{limit, amount_of}
 use Rattle.tally.specs.Given.{CellNumbers, Amount, Tallies}
 use Rattle.tally.specs.Tally.{tally_of, tallied_of}
 use Rattle.tally.proofs.Locals.{read, rate_read, weight_read}
@@ -35,9 +33,6 @@ use Rattle.measure.proofs.Residuals.{slopes_small, slopes}
 -- ---- the cell term
 
 module _ {ws ps : List ℤ} {i : ℕ} {r : ℤ} (C : CellAt ws ps i r) where
-  pub cell_value : i < length ps
-  cell_value = omega (arith, C.inside, C.given.proposed.count)
-
   cell_numbers_lem : CellNumbers ((job_of ws).weight i) r ((job_of ws).floor i) ((job_of ws).ceiling i) (word_at ps i)
   cell_numbers_lem = record {
     w_in = (C.given.allowed.cell i C.inside).weight;
@@ -71,12 +66,6 @@ module _ {ws ps : List ℤ} {i : ℕ} {r : ℤ} (C : CellAt ws ps i r) where
 
   cell_term_small : nat_abs (cell_term_with ws ps i r) ≤ 7000000000000000000
   cell_term_small = cell_small ((job_of ws).weight i) r ((job_of ws).floor i) ((job_of ws).ceiling i) (word_at ps i) cell_numbers_lem
-
-  pub cell_result : {w lo hi : ℤ} {t : Supplied} → w ≡ (job_of ws).weight i → lo ≡ (job_of ws).floor i → hi ≡ (job_of ws).ceiling i
-      → t ≡ supplied (read w) (read r) (read lo) (read hi) (read (word_at ps i)) → t ≡ supplied_with ws ps i r
-  cell_result ew el eh e =
-      e
-      ∙ (λ j. supplied ((ap read ew ∙ w_read) j) (r_read j) ((ap read el ∙ lo_read) j) ((ap read eh ∙ hi_read) j) (v_read j))
 
   pub cell_amount : {t : Supplied} → t ≡ supplied_with ws ps i r → Amount t
   cell_amount e =
@@ -174,7 +163,3 @@ module _ {ws ps : List ℤ} {n : ℕ} {parts : List ℤ} {start : ℤ} (H : Tota
         pub total_next : {g : Tally} → g ≡ tally_of (to_z w64 tolerance) tally (read t) i
             → g ≡ tallied_of (job_of ws).tolerance start (cell_term_on ws ps) (i + 1)
         total_next eg = tallies_next cells_run h T et.is t_is eg
-
-  pub total_ends : {i : ℕ} {tally : Tally} → i ≡ n → tally ≡ tallied_of (job_of ws).tolerance start (cell_term_on ws ps) i
-      → tally ≡ tallied_of (job_of ws).tolerance start (cell_term_on ws ps) (cells_of ws)
-  total_ends e T = T ∙ ap (tallied_of (job_of ws).tolerance start (cell_term_on ws ps)) (e ∙ H.n_is)

@@ -1,7 +1,7 @@
 -- What the check hands from one step to the next: the boxes, the walk over the links, and the gap that the running total decides.
 use Prim.Native.Nat.{ℕ, ◌+◌, ◌≤◌, ◌<◌}
 use mathlib.Core.Path.{◌≡◌, refl, sym, ap, ap₂, subst, subst₂, ◌∙◌}
-use mathlib.Core.Bool.{Bool, true, false, ◌&&◌}
+use mathlib.Core.Bool.{Bool, true, false}
 use mathlib.Core.List.{List}
 use native.Mathlib.Nat as N
 use native.Mathlib.Omega.{arith}
@@ -24,81 +24,65 @@ use Rattle.tally.specs.declared.Tally.{Tally}
 use Rattle.tally.specs.Largest.{largest_of}
 use Rattle.tally.specs.Given.{Led}
 use Rattle.tally.specs.Tally.{run_of, top_of, tallied_of, place_of}
-use Rattle.tally.proofs.Locals.{read, rate_read, tolerance_fits}
+use Rattle.tally.proofs.Locals.{read, tolerance_fits}
 use Rattle.tally.proofs.Terms.{true_t}
 use Rattle.tally.proofs.Totals.{Runs, run_least, run_small, run_fits, Tells, tells_start, run_tells, not_le_lt, lt_not_le}
 use Rattle.tally.proofs.Largest.{top_small, largest_few}
-use Rattle.measure.specs.declared.check.Verdict.{Verdict}
-use Rattle.measure.specs.declared.check.Verdict.TheVariants.{Accepted, Refused}
-use Rattle.measure.specs.declared.links.Walked.{Walked}
-use Rattle.measure.specs.declared.links.Walked.TheVariants.{Unmet, Held}
 use Rattle.measure.specs.Gap.{gap_of}
 use Rattle.measure.specs.Largest.{largest_place}
-use Rattle.measure.specs.Check.{lowest_failing, verdict_of, verdict_for}
-use Rattle.measure.specs.Given.{Given, Smoothing, Losing, Walking, Totalling, Parted, Judging}
-use Rattle.measure.specs.Running.{Added, walk_of, outside, met_of, walked_links}
-use Rattle.measure.specs.OnWords.{multiplier_on, in_box_on, holds_on, loss_on, rough_on, smooth_on, cell_term_on, link_term_on, gap_on, judged_on, held_on, parts_on, walk_on, met_on, walked_on}
-use Rattle.measure.proofs.Directions.{rough_fits, loss_in_64}
+use Rattle.measure.specs.Check.{Verdict, accepting, lowest_failing, verdict_of, verdict_for}
+use Rattle.measure.specs.Given.{Given, Smoothing, Walking, Totalling, Parted, Judging}
+use Rattle.measure.specs.Running.{Walked, Added, walk_of, outside, met_of, walked_links}
+use Rattle.measure.specs.OnWords.{multiplier_on, in_box_on, holds_on, loss_on, smooth_on, cell_term_on, link_term_on, gap_on, judged_on, held_on, parts_on, walk_on, met_on, walked_on}
+use Rattle.measure.proofs.Directions.{loss_in_64}
 use Rattle.measure.proofs.Largest.{place_is}
 use Rattle.measure.proofs.Lowest.{Passed, lowest_all, passed_all}
 use Rattle.measure.proofs.Scattered.{added_none}
 use Rattle.measure.proofs.Walks.{links_run, parts_small}
 use Rattle.measure.proofs.Totalled.{cells_run}
-
--- ---- a cell's box, in code
-
-module _ {ws ps : List ℤ} (G : Given ws ps) (i : ℕ) (h : i < cells_of ws) where
-  -- with the words that the code has
-  module _ {lo hi : ℤ} (el : lo ≡ (job_of ws).floor i) (eh : hi ≡ (job_of ws).ceiling i) where
-    floor_is : le_z (read lo) (read (word_at ps i)) ≡ le_z ((job_of ws).floor i) (word_at ps i)
-    floor_is = ap₂ le_z (ap read el ∙ rate_read (G.allowed.cell i h).floor) (rate_read (G.proposed.value i h))
-
-    pub box_high : le_z (read lo) (read (word_at ps i)) ≡ true → le_z (read (word_at ps i)) (read hi) ≡ in_box_on ws ps i
-    box_high e =
-        ap₂ le_z (rate_read (G.proposed.value i h)) (ap read eh ∙ rate_read (G.allowed.cell i h).ceiling)
-        ∙ ap (λ (a : Bool). a && le_z (word_at ps i) ((job_of ws).ceiling i)) (sym (sym floor_is ∙ e))
-
-    pub box_low : le_z (read lo) (read (word_at ps i)) ≡ false → false ≡ in_box_on ws ps i
-    box_low e = ap (λ (a : Bool). a && le_z (word_at ps i) ((job_of ws).ceiling i)) (sym (sym floor_is ∙ e))
+use Rattle.std.specs.Prelude.{Ok, Err}
+use Rattle.refusals.specs.declared.Refusal.{Refusal}
+use Rattle.refusals.specs.Refusals.{number_of}
+use Rattle.refusals.specs.declared.Refusal.TheVariants.{OutsideBox, BrokenLink, GapAbove}
 
 -- ---- 7, 8, and what is left
 
 abbrev met_by : (ws ps : List ℤ) → (outside broken : Bool) → Walked
 met_by ws ps outside broken =
-    if outside then Unmet 7 (lowest_failing (in_box_on ws ps) (cells_of ws)) else
-    if broken then Unmet 8 (held_on ws ps) else
-    Held (tallied_of (job_of ws).tolerance (pos 0) (link_term_on ws ps) (links_of ws))
+    if outside then Err (OutsideBox (lowest_failing (in_box_on ws ps) (cells_of ws))) else
+    if broken then Err (BrokenLink (held_on ws ps)) else
+    Ok (tallied_of (job_of ws).tolerance (pos 0) (link_term_on ws ps) (links_of ws))
 
 -- the verdict goes by what the boxes and the walk over the links answer
 abbrev on_met : Walked → (kept : Verdict) → Verdict
-on_met (Unmet number place) kept = Refused number place
-on_met (Held tally) kept = kept
+on_met (Err r) kept = Err r
+on_met (Ok tally) kept = kept
 
 met_verdict : (ws ps : List ℤ) → on_met (met_on ws ps) (judged_on ws ps) ≡ verdict_for (job_of ws) ps
 unfolding verdict_of met_of walk_of
 met_verdict ws ps = go (outside (job_of ws) (word_at ps)) (ltb (held_on ws ps) (links_of ws))
   where
     go : (a b : Bool) → on_met (met_by ws ps a b) (judged_on ws ps)
-        ≡ (if a then Refused 7 (lowest_failing (in_box_on ws ps) (cells_of ws)) else if b then Refused 8 (held_on ws ps) else judged_on ws ps)
+        ≡ (if a then Err (OutsideBox (lowest_failing (in_box_on ws ps) (cells_of ws))) else if b then Err (BrokenLink (held_on ws ps)) else judged_on ws ps)
     go true b = refl
     go false true = refl
     go false false = refl
 
 module _ (ws ps : List ℤ) {w : Walked} (ew : w ≡ met_on ws ps) where
-  pub met_refused : {number place : ℕ} → w ≡ Unmet number place → Refused number place ≡ verdict_for (job_of ws) ps
+  pub met_refused : {r : Refusal} → w ≡ Err r → Err r ≡ verdict_for (job_of ws) ps
   met_refused q = ap (λ (x : Walked). on_met x (judged_on ws ps)) (sym q ∙ ew) ∙ met_verdict ws ps
 
-  pub met_judged : {t : Tally} → w ≡ Held t → judged_on ws ps ≡ verdict_for (job_of ws) ps
+  pub met_judged : {t : Tally} → w ≡ Ok t → judged_on ws ps ≡ verdict_for (job_of ws) ps
   met_judged q = ap (λ (x : Walked). on_met x (judged_on ws ps)) (sym q ∙ ew) ∙ met_verdict ws ps
 
 -- a table that does not meet its job is refused with 7 or 8
-pub unmet_number : (ws ps : List ℤ) {number place : ℕ} → met_on ws ps ≡ Unmet number place → (7 ≤ number) × (number ≤ 8)
+pub unmet_number : (ws ps : List ℤ) {r : Refusal} → met_on ws ps ≡ Err r → (7 ≤ number_of r) × (number_of r ≤ 8)
 unfolding met_of walk_of
-unmet_number ws ps {number} {place} e = go (outside (job_of ws) (word_at ps)) (ltb (held_on ws ps) (links_of ws)) e
+unmet_number ws ps {r} e = go (outside (job_of ws) (word_at ps)) (ltb (held_on ws ps) (links_of ws)) e
   where
-    go : (a b : Bool) → met_by ws ps a b ≡ Unmet number place → (7 ≤ number) × (number ≤ 8)
-    go true b e = let q : 7 ≡ number = cc in (omega (arith, q), omega (arith, q))
-    go false true e = let q : 8 ≡ number = cc in (omega (arith, q), omega (arith, q))
+    go : (a b : Bool) → met_by ws ps a b ≡ Err r → (7 ≤ number_of r) × (number_of r ≤ 8)
+    go true b e = let q : 7 ≡ number_of r = cc in (omega (arith, q), omega (arith, q))
+    go false true e = let q : 8 ≡ number_of r = cc in (omega (arith, q), omega (arith, q))
     go false false e = clash (cc)
 
 -- ---- the boxes, then the walk
@@ -108,9 +92,9 @@ module _ {ws ps : List ℤ} {n : ℕ} {parts₀ : List ℤ} (W : Walking ws ps n
     out : outside (job_of ws) (word_at ps) ≡ true
     out = ap₂ ltb (sym ek) (sym W.n_is) ∙ lt-ltb cell n h
 
-    pub meet_outside : Unmet 7 cell ≡ met_on ws ps
+    pub meet_outside : Err (OutsideBox cell) ≡ met_on ws ps
     unfolding met_of
-    meet_outside = ap (Unmet 7) ek ∙ ap (λ (b : Bool). if b then Unmet 7 (lowest_failing (in_box_on ws ps) (cells_of ws)) else walk_on ws ps) (sym out)
+    meet_outside = ap {B = Walked} (λ (p : ℕ). Err (OutsideBox p)) ek ∙ ap (λ (b : Bool). if b then Err (OutsideBox (lowest_failing (in_box_on ws ps) (cells_of ws))) else walk_on ws ps) (sym out)
 
     pub meet_none : Added (parts_on ws ps (walked_on ws ps)) parts₀ parts₀
     unfolding walked_links
@@ -123,7 +107,7 @@ module _ {ws ps : List ℤ} {n : ℕ} {parts₀ : List ℤ} (W : Walking ws ps n
 
     pub meet_walked : {w : Walked} → w ≡ walk_on ws ps → w ≡ met_on ws ps
     unfolding met_of
-    meet_walked q = q ∙ ap (λ (b : Bool). if b then Unmet 7 (lowest_failing (in_box_on ws ps) (cells_of ws)) else walk_on ws ps) (sym inside)
+    meet_walked q = q ∙ ap (λ (b : Bool). if b then Err (OutsideBox (lowest_failing (in_box_on ws ps) (cells_of ws))) else walk_on ws ps) (sym inside)
 
     pub meet_added : {parts : List ℤ} → Added (parts_on ws ps (held_on ws ps)) parts₀ parts → Added (parts_on ws ps (walked_on ws ps)) parts₀ parts
     unfolding walked_links
@@ -139,16 +123,16 @@ record MetWith (ws ps : List ℤ) (t : Tally) : Type 0 where
   linked : ltb (held_on ws ps) (links_of ws) ≡ false
   tally_is : t ≡ tallied_of (job_of ws).tolerance (pos 0) (link_term_on ws ps) (links_of ws)
 
-met_with : (ws ps : List ℤ) (t : Tally) → met_on ws ps ≡ Held t → MetWith ws ps t
+met_with : (ws ps : List ℤ) (t : Tally) → met_on ws ps ≡ Ok t → MetWith ws ps t
 unfolding met_of walk_of
 met_with ws ps t e = go (outside (job_of ws) (word_at ps)) (ltb (held_on ws ps) (links_of ws)) refl refl e
   where
-    go : (a b : Bool) → outside (job_of ws) (word_at ps) ≡ a → ltb (held_on ws ps) (links_of ws) ≡ b → met_by ws ps a b ≡ Held t → MetWith ws ps t
+    go : (a b : Bool) → outside (job_of ws) (word_at ps) ≡ a → ltb (held_on ws ps) (links_of ws) ≡ b → met_by ws ps a b ≡ Ok t → MetWith ws ps t
     go true b p q e = clash (cc)
     go false true p q e = clash (cc)
     go false false p q e = record { boxed = p; linked = q; tally_is = cc }
 
-module _ {ws ps : List ℤ} {n : ℕ} {parts₀ : List ℤ} (W : Walking ws ps n parts₀) {t : Tally} (e : met_on ws ps ≡ Held t) where
+module _ {ws ps : List ℤ} {n : ℕ} {parts₀ : List ℤ} (W : Walking ws ps n parts₀) {t : Tally} (e : met_on ws ps ≡ Ok t) where
   met : MetWith ws ps t
   met = met_with ws ps t e
 
@@ -209,10 +193,6 @@ module _ {ws ps : List ℤ} {n : ℕ} {links : Tally} {parts : List ℤ} (J : Ju
   abbrev n_is : n ≡ cells_of ws
   n_is = J.parted.table.n_is
 
-  module _ {rough : ℤ} (er : rough ≡ rough_on ws ps) where
-    pub judge_losing : Losing ws ps n (read rough)
-    judge_losing = record { given = given; n_is = n_is; rough_is = gives er (rough_fits (given)) }
-
   module _ {parts' : List ℤ} (A : Added (smooth_on ws ps) parts parts') where
     linked : Runs (job_of ws).tolerance (pos 0) (link_term_on ws ps) (links_of ws)
     linked = links_run (given) (links_of ws) (N.le_refl (links_of ws)) J.parted.kept
@@ -269,13 +249,13 @@ module _ {ws ps : List ℤ} {n : ℕ} {links : Tally} {parts : List ℤ} (J : Ju
 
       abbrev judged_by : Bool → Verdict
       judged_by o =
-          if o then Accepted (loss_on ws ps) (gap_on ws ps) else Refused 9 (largest_place (job_of ws) (word_at ps) (multiplier_on ws ps))
+          if o then accepting (loss_on ws ps) (gap_on ws ps) else Err (GapAbove (largest_place (job_of ws) (word_at ps) (multiplier_on ws ps)))
 
       pub judged_accepts : {f : ℤ} → f ≡ loss_on ws ps → le_z (read g) (read t) ≡ true
-          → Accepted (read f) (read g) ≡ judged_on ws ps
+          → accepting (read f) (read g) ≡ judged_on ws ps
       judged_accepts {f} q e =
           let k : g ≡ gap_on ws ps = tells.exact (le_z_yes (true_t (sym test_is ∙ e))) in
-          ap₂ Accepted (gives q (loss_in_64 (given))) (g_read ∙ k)
+          ap₂ accepting (gives q (loss_in_64 (given))) (g_read ∙ k)
           ∙ ap judged_by (sym (ap (λ (x : ℤ). le_z x (job_of ws).tolerance) (sym k) ∙ sym test_is ∙ e))
 
       pub judge_led : Led n cells links
@@ -295,9 +275,9 @@ module _ {ws ps : List ℤ} {n : ℕ} {links : Tally} {parts : List ℤ} (J : Ju
           some : 0 < cells_of ws
           some = omega (arith, given.allowed.cells_some)
 
-      pub judged_refuses : le_z (read g) (read t) ≡ false → {p : ℕ} → p ≡ place_of n cells links → Refused 9 p ≡ judged_on ws ps
+      pub judged_refuses : le_z (read g) (read t) ≡ false → {p : ℕ} → p ≡ place_of n cells links → Err (GapAbove p) ≡ judged_on ws ps
       judged_refuses e q =
-          ap (Refused 9) (place_told q)
+          ap {B = Verdict} (λ (p : ℕ). Err (GapAbove p)) (place_told q)
           ∙ ap judged_by
           (sym
           (lt_not_le (gap_on ws ps) (job_of ws).tolerance (tells.past (not_le_lt g (job_of ws).tolerance (sym test_is ∙ e)))))

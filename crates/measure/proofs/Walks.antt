@@ -9,7 +9,6 @@ use native.Mathlib.Numerals.{add-one}
 use borrow.Author.Tests.{lt-ltb, le-ltb}
 use lib.Dec.{lit<, leb→le}
 use lib.IntN.{ℤ, pos, negsuc, nat_abs, ◌+ℤ◌, ◌-ℤ◌, ◌*ℤ◌}
-use lib.ListN.{length}
 use lib.Signed.{le_z, lt_z, le_z_yes, lt_z_yes, ≤ℤ_refl}
 use mir.Syntax.{w64}
 use mir.Val.{SFits, to_z}
@@ -28,7 +27,6 @@ use Rattle.tally.proofs.Locals.{read, rate_read, multiplier_read}
 use Rattle.tally.proofs.Terms.{link_small, true_t}
 use Rattle.tally.proofs.Totals.{Runs, not_lt_le, lt_not_le}
 use Rattle.tally.proofs.Tallies.{tally_starts, tallies_call, tallies_next}
-use Rattle.measure.specs.declared.links.Walked.TheVariants.{Unmet, Held}
 use Rattle.measure.specs.Gap.{link_sum}
 use Rattle.measure.specs.Given.{Given, LinkAt, Linked, Scattering, Walking}
 use Rattle.measure.specs.Running.{sum_at, bound_at, part_at, Added, walk_of}
@@ -36,15 +34,14 @@ use Rattle.measure.specs.OnWords.{multiplier_on, holds_on, link_term_on, held_on
 use Rattle.measure.proofs.Places.{link_at_lem}
 use Rattle.measure.proofs.Lowest.{Passed, passed_start, passed_next, lowest_all, lowest_at}
 use Rattle.measure.proofs.Scattered.{added_none, added_by, added_then, part_small, coefficient_read}
+use Rattle.std.specs.Prelude.{Ok, Err}
+use Rattle.refusals.specs.declared.Refusal.TheVariants.{BrokenLink}
 
 -- ---- the sum of a link that starts at s
 
 module _ {ws ps : List ℤ} {s : ℕ} (L : Linked ws ps s) where
   link_value : (m : ℕ) → m < count_at ws s → Upto 1000000 (word_at ps (count_at ws (s + 1 + 2 * m)))
   link_value m h = L.proposed.value (count_at ws (s + 1 + 2 * m)) (L.link.cell_inside m h)
-
-  pub link_cell_inside : (m : ℕ) → m < count_at ws s → count_at ws (s + 1 + 2 * m) < length ps
-  link_cell_inside m h = omega (arith, L.link.cell_inside m h, L.proposed.count)
 
   pub sum_adds : Adds (λ m. word_at ws (s + 2 + 2 * m) *ℤ word_at ps (count_at ws (s + 1 + 2 * m))) (count_at ws s) 10000000
   sum_adds = record {
@@ -63,9 +60,6 @@ module _ {ws ps : List ℤ} {s : ℕ} (L : Linked ws ps s) where
   sum_small : nat_abs (sum_at ws s (word_at ps)) ≤ 40000000
   unfolding sum_at
   sum_small = N.le_trans (partial_small sum_adds (count_at ws s) (N.le_refl (count_at ws s))) (omega (arith, L.link.terms.small))
-
-pub bound_read : {ws : List ℤ} {s : ℕ} → LinkAt ws s → {t : ℕ} → t ≡ count_at ws s → read (word_at ws (s + 1 + 2 * t)) ≡ bound_at ws s
-bound_read {ws} {s} L e = gives (ap (λ (x : ℕ). word_at ws (s + 1 + 2 * x)) e) (small_fits (bound_at ws s) L.bound (lit< tt))
 
 -- ---- the links of a job, by the words where they start
 
@@ -119,9 +113,6 @@ module _ {ws ps : List ℤ} (G : Given ws ps) {n l s : ℕ} (en : n ≡ cells_of
 
   pub here_linked : Linked ws ps s
   here_linked = record { link = here_link; proposed = G.proposed }
-
-  pub here_inside : n + l < length ps
-  here_inside = omega (arith, en, h, G.proposed.count)
 
   pub here_multiplier : read (word_at ps (n + l)) ≡ multiplier_on ws ps l
   here_multiplier = ap (λ (x : ℕ). read (word_at ps (x + l))) en ∙ multiplier_read (G.proposed.multiplier l h)
@@ -195,7 +186,7 @@ module _ {ws ps : List ℤ} {n : ℕ} {parts₀ : List ℤ} (W : Walking ws ps n
       found : lt_z (read b) (read x) ≡ true → held_on ws ps ≡ l
       found e = lowest_at (holds_on ws ps) (links_of ws) l h I.passed (fails e)
 
-      pub walk_broken : lt_z (read b) (read x) ≡ true → Unmet 8 l ≡ walk_on ws ps
+      pub walk_broken : lt_z (read b) (read x) ≡ true → Err (BrokenLink l) ≡ walk_on ws ps
       unfolding walk_of
       walk_broken e = rw (found e, lt-ltb l (links_of ws) h)
 
@@ -242,9 +233,9 @@ module _ {ws ps : List ℤ} {n : ℕ} {parts₀ : List ℤ} (W : Walking ws ps n
     all : held_on ws ps ≡ links_of ws
     all = lowest_all (holds_on ws ps) (links_of ws) (subst (λ (x : ℕ). Passed (holds_on ws ps) x) e I.passed)
 
-    pub walk_held : Held tally ≡ walk_on ws ps
+    pub walk_held : Ok tally ≡ walk_on ws ps
     unfolding walk_of
-    walk_held = rw (all, le-ltb (links_of ws) (links_of ws) (N.le_refl (links_of ws))) (ap Held (I.tally_is ∙ ap (tallied_of (job_of ws).tolerance (pos 0) (link_term_on ws ps)) e))
+    walk_held = rw (all, le-ltb (links_of ws) (links_of ws) (N.le_refl (links_of ws))) (ap Ok (I.tally_is ∙ ap (tallied_of (job_of ws).tolerance (pos 0) (link_term_on ws ps)) e))
 
     pub walk_held_parts : Added (parts_on ws ps (held_on ws ps)) parts₀ parts
     walk_held_parts = subst (λ (k : ℕ). Added (parts_on ws ps k) parts₀ parts) (e ∙ sym all) I.parts_added

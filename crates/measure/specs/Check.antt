@@ -2,16 +2,17 @@
 use Rattle.std.specs.Prelude.{ℕ, zero, suc, ◌+◌, Bool, ◌&&◌, List, ltb, ℤ}
 use Rattle.std.specs.Int.Signed.{le_z}
 use Rattle.std.specs.Prelude.{if◌then◌else◌}
-use Rattle.packs.specs.declared.Outcome.{Outcome}
-use Rattle.packs.specs.declared.Outcome.TheVariants.{Done, Refused as Refuses}
 use Rattle.jobs.specs.Job.{Job}
 use Rattle.jobs.specs.Words.{word_at, job_of}
 use Rattle.jobs.specs.Packs.{read_job, read_proposal}
-use Rattle.measure.specs.declared.check.Verdict.{Verdict}
-use Rattle.measure.specs.declared.check.Verdict.TheVariants.{Accepted, Refused}
 use Rattle.measure.specs.Loss.{loss_of}
 use Rattle.measure.specs.Gap.{link_sum, gap_of}
 use Rattle.measure.specs.Largest.{largest_place}
+use Rattle.std.specs.Prelude.{Result, Ok, Err}
+use Rattle.refusals.specs.declared.Refusal.TheVariants.{OutsideBox, BrokenLink, GapAbove}
+use Rattle.packs.specs.Reading.{Outcome}
+use Rattle.refusals.specs.declared.Refusal.{Refusal}
+use Rattle.measure.specs.declared.check.Figures.{Figures}
 
 -- The lowest of the k numbers from i on at which a test fails, or the number after them.
 unfoldable pub lowest_from : (passes : ℕ → Bool) → (i k : ℕ) → ℕ
@@ -29,15 +30,22 @@ in_box j v i = le_z (j.floor i) (v i) && le_z (v i) (j.ceiling i)
 abbrev pub holds : Job → (v : ℕ → ℤ) → (l : ℕ) → Bool
 holds j v l = le_z (link_sum j l v) (j.bound l)
 
+-- A table is accepted with its loss and gap, or refused.
+abbrev pub Verdict : Type 0
+Verdict = Result Figures Refusal
+
+abbrev pub accepting : (loss gap : ℤ) → Verdict
+accepting loss gap = Ok (record { loss = loss; gap = gap })
+
 -- "9: G above T"; document 02, W-202: its place is that of the largest term of the gap
 abbrev pub judged_of : Job → (v y : ℕ → ℤ) → Verdict
-judged_of j v y = if le_z (gap_of j v y) j.tolerance then Accepted (loss_of j v) (gap_of j v y) else Refused 9 (largest_place j v y)
+judged_of j v y = if le_z (gap_of j v y) j.tolerance then accepting (loss_of j v) (gap_of j v y) else Err (GapAbove (largest_place j v y))
 
 -- The verdict on a table v with multipliers y.
 unfoldable pub verdict_of : Job → (v y : ℕ → ℤ) → Verdict
 verdict_of j v y =
-    if ltb (lowest_failing (in_box j v) j.cells) j.cells then Refused 7 (lowest_failing (in_box j v) j.cells) else
-    if ltb (lowest_failing (holds j v) j.links) j.links then Refused 8 (lowest_failing (holds j v) j.links) else
+    if ltb (lowest_failing (in_box j v) j.cells) j.cells then Err (OutsideBox (lowest_failing (in_box j v) j.cells)) else
+    if ltb (lowest_failing (holds j v) j.links) j.links then Err (BrokenLink (lowest_failing (holds j v) j.links)) else
     judged_of j v y
 
 -- The values and the multipliers of a proposal's words.
@@ -49,8 +57,8 @@ multipliers_of cells ps l = word_at ps (cells + l)
 
 -- A pack's refusal is the check's.
 abbrev pub on_read : Outcome → Verdict → Verdict
-on_read (Done k) verdict = verdict
-on_read (Refuses number place) verdict = Refused number place
+on_read (Ok k) verdict = verdict
+on_read (Err r) verdict = Err r
 
 -- The verdict on a proposal's words, and on a proposal pack.
 abbrev pub verdict_for : Job → (ps : List ℤ) → Verdict

@@ -5,12 +5,10 @@ use Rattle.certificate.specs.Terms.{cell_term}
 use Rattle.jobs.specs.Words.{cells_of, job_of}
 use Rattle.tally.specs.declared.term.Supplied.{Supplied}
 use Rattle.tally.specs.Supplied.{limit, supplied}
-use Rattle.measure.specs.declared.check.Verdict.{Verdict}
-use Rattle.measure.specs.declared.links.Walked.{Walked}
 use Rattle.measure.specs.Loss.{fit_of, rough_of, loss_of}
 use Rattle.measure.specs.Gap.{smooth_part, link_part, residual_of, cell_term_of, link_term_of, gap_of}
-use Rattle.measure.specs.Check.{in_box, holds, values_of, multipliers_of, judged_of}
-use Rattle.measure.specs.Running.{held_links, parts_of, walk_of, met_of, walked_links}
+use Rattle.measure.specs.Check.{Verdict, in_box, holds, values_of, multipliers_of, judged_of}
+use Rattle.measure.specs.Running.{Walked, held_links, parts_of, walk_of, met_of, walked_links}
 
 abbrev pub multiplier_on : (ws ps : List ℤ) → (l : ℕ) → ℤ
 multiplier_on ws ps l = multipliers_of (cells_of ws) ps l

@@ -5,10 +5,16 @@ use Rattle.std.specs.Prelude.{if◌then◌else◌}
 use Rattle.jobs.specs.Job.{Job, link_coefficient}
 use Rattle.jobs.specs.Words.{word_at, count_at}
 use Rattle.tally.specs.Tally.{tallied_of}
-use Rattle.measure.specs.declared.links.Walked.{Walked}
-use Rattle.measure.specs.declared.links.Walked.TheVariants.{Unmet, Held}
 use Rattle.measure.specs.Gap.{link_term_of}
 use Rattle.measure.specs.Check.{lowest_failing, in_box, holds}
+use Rattle.std.specs.Prelude.{Result, Ok, Err}
+use Rattle.refusals.specs.declared.Refusal.TheVariants.{OutsideBox, BrokenLink}
+use Rattle.refusals.specs.declared.Refusal.{Refusal}
+use Rattle.tally.specs.declared.Tally.{Tally}
+
+-- What a walk over the links finds: the tally of all link terms, or the refusal of a table that does not meet its job.
+abbrev pub Walked : Type 0
+Walked = Result Tally Refusal
 
 -- A number is added to each word of a list.
 pub record Added (part : ℕ → ℤ) (before after : List ℤ) : Type 0 where
@@ -39,14 +45,14 @@ parts_of j y k i = sum k (λ l. y l *ℤ link_coefficient j l i)
 
 -- .. what a walk over the links answers, 8 at the lowest broken one ..
 unfoldable pub walk_of : Job → (v y : ℕ → ℤ) → Walked
-walk_of j v y = if ltb (held_links j v) j.links then Unmet 8 (held_links j v) else Held (tallied_of j.tolerance (pos 0) (link_term_of j v y) j.links)
+walk_of j v y = if ltb (held_links j v) j.links then Err (BrokenLink (held_links j v)) else Ok (tallied_of j.tolerance (pos 0) (link_term_of j v y) j.links)
 
 -- .. and what it answers after the boxes, 7 at the lowest cell outside its own, and how many links it has gone over then.
 abbrev pub outside : Job → (v : ℕ → ℤ) → Bool
 outside j v = ltb (lowest_failing (in_box j v) j.cells) j.cells
 
 unfoldable pub met_of : Job → (v y : ℕ → ℤ) → Walked
-met_of j v y = if outside j v then Unmet 7 (lowest_failing (in_box j v) j.cells) else walk_of j v y
+met_of j v y = if outside j v then Err (OutsideBox (lowest_failing (in_box j v) j.cells)) else walk_of j v y
 
 unfoldable pub walked_links : Job → (v : ℕ → ℤ) → ℕ
 walked_links j v = if outside j v then 0 else held_links j v

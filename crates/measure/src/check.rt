@@ -10,21 +10,24 @@ ghost use Rattle.measure.specs.Given.{Given, Judging};
 ghost use Rattle.measure.specs.Running.{Added};
 ghost use Rattle.measure.specs.OnWords.{smooth_on, judged_on};
 
-use crate::links::Walked;
 use crate::meeting::meet;
-use crate::opening::{Opened, open_both};
+use crate::opening::open_both;
 use crate::{gap, loss, smooth};
 use jobs::job::JOB_WORDS;
 use jobs::proposal::PROPOSAL_WORDS;
 use jobs::words;
+use refusals::Refusal;
 use tally::{Tally, place_of};
 
-// What the check answers: the table is accepted with its loss and gap, or refused with a number and a place.
+// The loss and the gap of a table that is accepted.
 #[derive(Clone, Copy)]
-pub enum Verdict {
-    Accepted { loss: i64, gap: i64 },
-    Refused { number: u64, place: usize },
+pub struct Figures {
+    pub loss: i64,
+    pub gap: i64,
 }
+
+// What the check answers.
+pub type Verdict = Result<Figures, Refusal>;
 
 // The verdict on a table that meets its boxes and links, from the tally of its link terms and its link parts, to which its differences add.
 fn judged(words: &[i64], proposal: &[i64], n: usize, links: Tally, parts: &mut [i64]) -> Verdict
@@ -36,11 +39,10 @@ fn judged(words: &[i64], proposal: &[i64], n: usize, links: Tally, parts: &mut [
     let g = cells.total;
     let t = words::tolerance_of(words);
     if g <= t {
-        let f = loss::loss(words, proposal, n, rough);
-        return Verdict::Accepted { loss: f, gap: g };
+        let loss = loss::loss(words, proposal, n, rough);
+        return Ok(Figures { loss, gap: g });
     }
-    let place = place_of(n, cells, links);
-    Verdict::Refused { number: 9, place }
+    Err(Refusal::GapAbove(place_of(n, cells, links)))
 }
 
 // The verdict on a proposal's words, n values and then the multipliers, against a job's words.
@@ -50,11 +52,8 @@ fn check_words(words: &[i64], proposal: &[i64]) -> Verdict
 {
     let n = words::cells_of(words);
     let mut parts = [0i64; 120];
-    let walked = meet(words, proposal, n, &mut parts);
-    match walked {
-        Walked::Unmet(number, place) => Verdict::Refused { number, place },
-        Walked::Held(tally) => judged(words, proposal, n, tally, &mut parts),
-    }
+    let tally = meet(words, proposal, n, &mut parts)?;
+    judged(words, proposal, n, tally, &mut parts)
 }
 
 // The verdict on the first k words of a proposal's.
@@ -82,11 +81,8 @@ pub fn check_into(
 ) -> Verdict
     ensures { (result ≡ check_of job.now proposal.now) × (words.new ≡ sets words.old 0 (read_job job.now).words) × (values.new ≡ sets values.old 0 (proposal_words job.now proposal.now)) }
 {
-    let opened = open_both(job, proposal, words, values);
-    match opened {
-        Opened::Both(k, m) => check_parts(words, k, values, m),
-        Opened::Unread(number, place) => Verdict::Refused { number, place },
-    }
+    let counts = open_both(job, proposal, words, values)?;
+    check_parts(words, counts.words, values, counts.values)
 }
 
 // The same, with room of its own.

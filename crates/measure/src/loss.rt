@@ -28,11 +28,9 @@ pub fn difference_at(values: &[i64], row: &[i64; 5], z: usize, stride: usize, i:
     requires { Differs row.now z stride i values.now }
     ensures { result ≡ form_at (word_at row.now) z stride i (word_at values.now) }
 {
-    let mut total: i64 = 0;
-    let mut m: usize = 0;
-    while m <= z {
+    let mut total = 0;
+    for m in 0..z + 1 {
         total += difference_term(values, row, z, stride, i, m);
-        m += 1;
     }
     total
 }
@@ -53,11 +51,9 @@ fn fit(words: &[i64], values: &[i64], n: usize) -> i64
     requires { Given words.now values.now × (n ≡ cells_of words.now) }
     ensures { result ≡ fit_on words.now values.now }
 {
-    let mut total: i64 = 0;
-    let mut i: usize = 0;
-    while i < n {
+    let mut total = 0;
+    for i in 0..n {
         total += fit_term(words, values, i);
-        i += 1;
     }
     total
 }

@@ -4,17 +4,18 @@ ghost use Rattle.measure.specs.Given.{Walking};
 ghost use Rattle.measure.specs.Running.{Added};
 ghost use Rattle.measure.specs.OnWords.{parts_on, met_on, walked_on};
 
-use crate::links::Walked;
 use crate::{boxes, links};
+use refusals::Refusal;
+use tally::Tally;
 
 // The tally of the link terms of a table that meets its job, and its link parts; or the refusal of one that does not.
-pub fn meet(words: &[i64], proposal: &[i64], n: usize, parts: &mut [i64]) -> Walked
+pub fn meet(words: &[i64], proposal: &[i64], n: usize, parts: &mut [i64]) -> Result<Tally, Refusal>
     requires { Walking words.now proposal.now n parts.old }
     ensures { (result ≡ met_on words.now proposal.now) × Added (parts_on words.now proposal.now (walked_on words.now proposal.now)) parts.old parts.new }
 {
     let cell = boxes::lowest_outside(words, proposal, n);
     if cell < n {
-        return Walked::Unmet(7, cell);
+        return Err(Refusal::OutsideBox(cell));
     }
     links::walk(words, proposal, n, parts)
 }

@@ -11,17 +11,17 @@ use fields::Field;
 use jobs::job::JOB_WORDS;
 use jobs::proposal::{PROPOSAL_WORDS, read_proposal};
 use jobs::words;
-use packs::Outcome;
+use refusals::Refusal;
 
-// Two packs that were read, with the counts of their words, or the refusal of the first that cannot be read.
+// How many words two packs have that were read.
 #[derive(Clone, Copy)]
-pub enum Opened {
-    Both(usize, usize),
-    Unread(u64, usize),
+pub struct Counts {
+    pub words: usize,
+    pub values: usize,
 }
 
 // Reads a proposal pack for a job's words.
-fn read_for(words: &[i64], proposal: &[u8], values: &mut [i64]) -> Outcome
+fn read_for(words: &[i64], proposal: &[u8], values: &mut [i64]) -> Result<usize, Refusal>
     requires { Allowed (job_of words.now) × Laid words.now }
     ensures { Hands (read_proposal (cells_of words.now) (links_of words.now) proposal.now) values.old result values.new }
 {
@@ -31,15 +31,15 @@ fn read_for(words: &[i64], proposal: &[u8], values: &mut [i64]) -> Outcome
 }
 
 // Reads a proposal pack for the job in the first k words.
-fn open_for(words: &[i64], k: usize, proposal: &[u8], values: &mut [i64]) -> Opened
+fn open_for(words: &[i64], k: usize, proposal: &[u8], values: &mut [i64]) -> Result<Counts, Refusal>
     requires { (k ≤ length words.now) × (Allowed (job_of (take k words.now)) × Laid (take k words.now)) }
     ensures { (result ≡ opened_for k (read_proposal (cells_of (take k words.now)) (links_of (take k words.now)) proposal.now).outcome) × (values.new ≡ sets values.old 0 (read_proposal (cells_of (take k words.now)) (links_of (take k words.now)) proposal.now).words) }
 {
-    let read = read_for(&words[0..k], proposal, values);
-    match read {
-        Outcome::Done(m) => Opened::Both(k, m),
-        Outcome::Refused(number, place) => Opened::Unread(number, place),
-    }
+    let m = read_for(&words[..k], proposal, values)?;
+    Ok(Counts {
+        words: k,
+        values: m,
+    })
 }
 
 // Reads both packs. The words of both go into what is lent, also those before a refusal: lend it room of your own.
@@ -48,12 +48,9 @@ pub fn open_both(
     proposal: &[u8],
     words: &mut [i64; JOB_WORDS],
     values: &mut [i64; PROPOSAL_WORDS],
-) -> Opened
+) -> Result<Counts, Refusal>
     ensures { (result ≡ opened_of job.now proposal.now) × (words.new ≡ sets words.old 0 (read_job job.now).words) × (values.new ≡ sets values.old 0 (proposal_words job.now proposal.now)) }
 {
-    let read = packs::reading::read(job, Field::Society, words);
-    match read {
-        Outcome::Done(k) => open_for(words, k, proposal, values),
-        Outcome::Refused(number, place) => Opened::Unread(number, place),
-    }
+    let k = packs::reading::read(job, Field::Society, words)?;
+    open_for(words, k, proposal, values)
 }

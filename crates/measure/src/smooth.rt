@@ -37,11 +37,9 @@ fn give_back(row: &[i64; 5], z: usize, stride: usize, i: usize, y: i64, parts: &
     requires { GivesBack row.now z stride i y parts.old }
     ensures { Added (back_at (word_at row.now) z stride i y) parts.old parts.new }
 {
-    let mut m: usize = 0;
-    while m <= z {
+    for m in 0..z + 1 {
         let cell = i + m * stride;
         links::add_at(parts, cell, y, row[m]);
-        m += 1;
     }
 }
 
@@ -65,14 +63,12 @@ fn smooth(
     let row = rows::row_of(z);
     let reach = z * stride;
     let count = n - reach;
-    let mut rough: i64 = 0;
-    let mut i: usize = 0;
-    while i < count {
+    let mut rough = 0;
+    for i in 0..count {
         let d = difference_within(values, &row, z, stride, width, i);
         let y = 2 * k * d;
         give_back(&row, z, stride, i, y, parts);
         rough += d * d;
-        i += 1;
     }
     k * rough
 }

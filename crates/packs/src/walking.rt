@@ -3,12 +3,19 @@
 ghost use Rattle.std.specs.Prelude.{◌≡◌, true, ◌+◌, ◌*◌, ◌^◌, ◌≤◌, ◌<◌, set};
 ghost use Rattle.fields.specs.Table.{step_of};
 ghost use Rattle.packs.specs.Reading.{settled, Hands};
-ghost use Rattle.packs.specs.Walking.{in_groups, in_words, Small, next_of, left_of, kept_of, walk_move, walk_of};
+ghost use Rattle.packs.specs.Walking.{writes, bytes_in, words_in, in_groups, in_words, Small, next_of, left_of, kept_of, walk_move, walk_of};
 
 use crate::words::{raw_of, word_of};
 use fields::{Barred, Field};
 use numbers::plain::Number;
 use refusals::Refusal;
+
+// Where the numbers of a walk come from: a reader's from the bytes of a pack, the writer's from words.
+#[derive(Clone, Copy)]
+pub enum Source<'a> {
+    Pack(&'a [u8]),
+    Words(&'a [i64]),
+}
 
 // A number taken: the field that follows, the word to be kept and the offset after it.
 #[derive(Clone, Copy)]
@@ -48,52 +55,45 @@ fn in_words(words: &[i64], k: usize, at: usize, f: Field) -> Result<Number, Refu
 }
 
 // The number that comes next.
-fn next_of(
-    pack: &[u8],
-    words: &[i64],
-    writing: bool,
-    k: usize,
-    at: usize,
-    f: Field,
-) -> Result<Number, Refusal>
-    requires { writing ≡ true → at ≤ 10 * k }
-    ensures { (result ≡ next_of writing pack.now words.now k at f) × Small result }
+fn next_of(source: Source, k: usize, at: usize, f: Field) -> Result<Number, Refusal>
+    requires { writes source ≡ true → at ≤ 10 * k }
+    ensures { (result ≡ next_of (writes source.entry) (bytes_in source.entry) (words_in source.entry) k at f) × Small result }
 {
-    if writing {
-        return in_words(words, k, at, f);
+    match source {
+        Source::Pack(pack) => numbers::plain::number_at(pack, at).ok_or(Refusal::Unreadable(at)),
+        Source::Words(words) => in_words(words, k, at, f),
     }
-    numbers::plain::number_at(pack, at).ok_or(Refusal::Unreadable(at))
 }
 
 // Whether anything is left where the table ends.
-fn has_left(pack: &[u8], words: &[i64], writing: bool, k: usize, at: usize) -> bool
-    ensures { result ≡ left_of writing pack.now words.now k at }
+fn has_left(source: Source, k: usize, at: usize) -> bool
+    ensures { result ≡ left_of (writes source.entry) (bytes_in source.entry) (words_in source.entry) k at }
 {
-    if writing {
-        return k < words.len();
+    match source {
+        Source::Pack(pack) => at < pack.len(),
+        Source::Words(words) => k < words.len(),
     }
-    at < pack.len()
 }
 
 // What a reader keeps of a number is the word that it is at its field; what the writer keeps is the number itself.
-fn kept_of(writing: bool, f: Field, x: u64) -> i64
+fn kept_of(source: Source, f: Field, x: u64) -> i64
     requires { x < 2 ^ 63 }
-    ensures { result ≡ kept_of writing f x }
+    ensures { result ≡ kept_of (writes source.entry) f x }
 {
-    if writing {
-        return numbers::zigzag::plus(x);
+    match source {
+        Source::Pack(_) => word_of(f, x),
+        Source::Words(_) => numbers::zigzag::plus(x),
     }
-    word_of(f, x)
 }
 
 // The number n, which stands at `at`, tested at its field.
-fn tested(writing: bool, f: Field, n: Number, at: usize) -> Result<Option<Taken>, Refusal>
+fn tested(source: Source, f: Field, n: Number, at: usize) -> Result<Option<Taken>, Refusal>
     requires { n.value < 2 ^ 63 }
-    ensures { result ≡ settled (kept_of writing f n.value) at n.next (step_of f n.value) }
+    ensures { result ≡ settled (kept_of (writes source.entry) f n.value) at n.next (step_of f n.value) }
 {
     match fields::after(f, n.value) {
         Ok(field) => {
-            let word = kept_of(writing, f, n.value);
+            let word = kept_of(source, f, n.value);
             let next = n.next;
             Ok(Some(Taken { field, word, next }))
         }
@@ -103,25 +103,18 @@ fn tested(writing: bool, f: Field, n: Number, at: usize) -> Result<Option<Taken>
 }
 
 // What stands next in a walk: a number taken, or none where the table ends.
-fn move_at(
-    pack: &[u8],
-    words: &[i64],
-    writing: bool,
-    k: usize,
-    at: usize,
-    f: Field,
-) -> Result<Option<Taken>, Refusal>
-    requires { writing ≡ true → at ≤ 10 * k }
-    ensures { result ≡ walk_move writing pack.now words.now k at f }
+fn move_at(source: Source, k: usize, at: usize, f: Field) -> Result<Option<Taken>, Refusal>
+    requires { writes source ≡ true → at ≤ 10 * k }
+    ensures { result ≡ walk_move (writes source.entry) (bytes_in source.entry) (words_in source.entry) k at f }
 {
     if fields::is_end(f) {
-        if has_left(pack, words, writing, k, at) {
+        if has_left(source, k, at) {
             return Err(Refusal::Unreadable(at));
         }
         return Ok(None);
     }
-    let n = next_of(pack, words, writing, k, at, f)?;
-    tested(writing, f, n, at)
+    let n = next_of(source, k, at, f)?;
+    tested(source, f, n, at)
 }
 
 // Sets the word at k, where there is one.
@@ -133,21 +126,15 @@ fn store(kept: &mut [i64], k: usize, word: i64)
     }
 }
 
-// Walks from the field `first` on, over the bytes of a pack or, where `writing`, over words. What is kept of each number goes into `kept` as far as
-// there is room, also before a refusal: lend it room of your own. Answers the count of words.
-pub fn walk(
-    pack: &[u8],
-    words: &[i64],
-    writing: bool,
-    first: Field,
-    kept: &mut [i64],
-) -> Result<usize, Refusal>
-    ensures { Hands (walk_of writing pack.now words.now first) kept.old result kept.new }
+// Walks from the field `first` on. What is kept of each number goes into `kept` as far as there is room, also before a refusal: lend it room of your own.
+// Answers the count of words.
+pub fn walk(source: Source, first: Field, kept: &mut [i64]) -> Result<usize, Refusal>
+    ensures { Hands (walk_of (writes source.entry) (bytes_in source.entry) (words_in source.entry) first) kept.old result kept.new }
 {
     let mut field = first;
     let mut at: usize = 0;
     let mut k: usize = 0;
-    while let Some(t) = move_at(pack, words, writing, k, at, field)? {
+    while let Some(t) = move_at(source, k, at, field)? {
         store(kept, k, t.word);
         k += 1;
         at = t.next;

@@ -46,12 +46,10 @@ pub fn right_for(words: &[i64], s: usize) -> [f64; CELLS]
 {
     let t = count_at(words, s);
     let mut made = [0.0; CELLS];
-    let mut m = 0;
-    while m < t {
+    for m in 0..t {
         let cell = cell_at(words, s, m);
         let a = coefficient_at(words, s, m);
         made[cell] = a;
-        m += 1;
     }
     made
 }
@@ -63,12 +61,10 @@ pub fn sum_over(words: &[i64], s: usize, xs: &[f64; CELLS]) -> f64
 {
     let t = count_at(words, s);
     let mut total = 0.0;
-    let mut m = 0;
-    while m < t {
+    for m in 0..t {
         let cell = cell_at(words, s, m);
         let a = coefficient_at(words, s, m);
         total = total + a * xs[cell];
-        m += 1;
     }
     total
 }

@@ -30,10 +30,8 @@ fn fall(v: &mut [f64; CELLS], x: &[f64; CELLS], h: f64, n: usize)
     requires { n ≤ 120 }
     ensures { v.new ≡ fallen_from x.now h n 0 v.old }
 {
-    let mut i = 0;
-    while i < n {
+    for i in 0..n {
         v[i] = v[i] - h * x[i];
-        i += 1;
     }
 }
 
@@ -79,12 +77,10 @@ pub fn pass(
     ensures { state v.new y.new ≡ pass_from d.now l.now z n (link_of (job_of words.now)) links 0 (state v.old y.old) }
 {
     let mut s = first_link_of(words, n);
-    let mut i = 0;
-    while i < links {
+    for i in 0..links {
         let was = y[i];
         let new = improve(words, s, n, z, d, l, starts, was, v);
         y[i] = new;
         s = next_start(words, s);
-        i += 1;
     }
 }

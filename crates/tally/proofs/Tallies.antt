@@ -11,10 +11,10 @@ use Rattle.whole.proofs.Fits.{small_fits, gives}
 use Rattle.std.specs.Prelude.{if◌then◌else◌}
 use Rattle.tally.specs.declared.Tally.{Tally}
 use Rattle.tally.specs.Largest.{largest_of}
-use Rattle.tally.specs.Given.{Settles, Tallies, Led}
-use Rattle.tally.specs.Tally.{settled_of, run_of, top_of, tally_of, tallied_of, place_of}
-use Rattle.tally.proofs.Locals.{read, tolerance_fits}
-use Rattle.tally.proofs.Totals.{Runs, run_least, run_small, settled_small}
+use Rattle.tally.specs.Given.{Tallies}
+use Rattle.tally.specs.Tally.{settled_of, run_of, top_of, tally_of, tallied_of}
+use Rattle.tally.proofs.Locals.{read}
+use Rattle.tally.proofs.Totals.{Runs, run_least, run_small}
 use Rattle.tally.proofs.Largest.{top_small}
 
 abbrev tally : ℤ → ℤ → ℕ → Tally
@@ -72,52 +72,3 @@ module _ {T start : ℤ} {t : ℕ → ℤ} {n : ℕ} (R : Runs T start t n) {i :
   tallies_next q =
       q ∙ ap₂ (λ (u z : ℤ). tally_of u y z i) eU x_read ∙ ap (λ (z : Tally). tally_of T z (t i) i) H ∙ tally_next T start t i (R.least i h)
       ∙ ap (tallied_of T start t) (sym (add-one i))
-
--- ---- inside `tallied`
-
-module _ {tolerance t : ℤ} {y : Tally} (h : Tallies tolerance y t) where
-  tolerance_read : read tolerance ≡ tolerance
-  tolerance_read = gives refl (tolerance_fits h.settles.tolerance_in)
-
-  total_read : read y.total ≡ y.total
-  total_read = gives refl (small_fits y.total h.settles.total_small (lit< tt))
-
-  t_read : read t ≡ t
-  t_read = gives refl (small_fits t h.settles.t_small (lit< tt))
-
-  largest_read : read y.largest ≡ y.largest
-  largest_read = gives refl (small_fits y.largest h.largest_small (lit< tt))
-
-  pub tally_settles : Settles (read tolerance) (read y.total) (read t)
-  tally_settles = rw (tolerance_read, total_read, t_read) h.settles
-
-  module _ {s : ℤ} (q : s ≡ settled_of (read tolerance) (read y.total) (read t)) (place : ℕ) where
-    s_read : read s ≡ settled_of tolerance y.total t
-    s_read =
-        gives (q ∙ ap (λ (u : ℤ). settled_of u (read y.total) (read t)) tolerance_read ∙ ap₂ (settled_of tolerance) total_read t_read)
-        (small_fits (settled_of tolerance y.total t) (settled_small t h.settles.tolerance_in h.settles.total_least h.settles.total_small h.settles.t_small) (lit< tt))
-
-    told : {o : Bool} → lt_z (read y.largest) (read t) ≡ o → o ≡ lt_z y.largest t
-    told e = sym e ∙ ap₂ lt_z largest_read t_read
-
-    abbrev by : Bool → Tally
-    by o = tally (settled_of tolerance y.total t) (if o then t else y.largest) (if o then place else y.place)
-
-    pub tally_larger : lt_z (read y.largest) (read t) ≡ true → tally (read s) (read t) place ≡ tally_of tolerance y t place
-    tally_larger e = ap₂ (λ (a b : ℤ). tally a b place) s_read t_read ∙ ap by (told e)
-
-    pub tally_same : lt_z (read y.largest) (read t) ≡ false → tally (read s) (read y.largest) y.place ≡ tally_of tolerance y t place
-    tally_same e = ap₂ (λ (a b : ℤ). tally a b y.place) s_read largest_read ∙ ap by (told e)
-
--- ---- inside `place_of`
-
-module _ {n : ℕ} {cells links : Tally} (h : Led n cells links) where
-  leader : {o : Bool} → lt_z (read cells.largest) (read links.largest) ≡ o → o ≡ lt_z cells.largest links.largest
-  leader e =
-      sym e ∙ ap₂ lt_z (gives refl (small_fits cells.largest h.cells_small (lit< tt))) (gives refl (small_fits links.largest h.links_small (lit< tt)))
-
-  pub place_linked : lt_z (read cells.largest) (read links.largest) ≡ true → n + links.place ≡ place_of n cells links
-  place_linked e = ap (λ (o : Bool). if o then n + links.place else cells.place) (leader e)
-
-  pub place_celled : lt_z (read cells.largest) (read links.largest) ≡ false → cells.place ≡ place_of n cells links
-  place_celled e = ap (λ (o : Bool). if o then n + links.place else cells.place) (leader e)

@@ -8,11 +8,11 @@ use native.Mathlib.Omega.{arith}
 use lib.Dec.{T, lit<, leb, leb→le, ltb, ltb→lt}
 use lib.IntN.{ℤ, pos, negsuc, nat_abs, ◌+ℤ◌, ◌-ℤ◌, ◌*ℤ◌, +ℤ_idl}
 use lib.Signed.{◌≤ℤ◌, le_z, lt_z, le_z_yes, quot_z}
-use borrow.Author.Tests.{ltb-true, ltb-false, leb-true, le-ltb, le-leb, lt-leb}
+use borrow.Author.Tests.{ltb-true, ltb-false, leb-true, le-ltb, le-leb}
 use mir.Syntax.{w64}
 use mir.Val.{SFits, of_z}
 use Rattle.whole.proofs.Order.{≤ℤ-trans}
-use Rattle.whole.proofs.Magnitude.{bound-+, bound--, bound-*, nat_abs_le_of, nat_abs_sq}
+use Rattle.whole.proofs.Magnitude.{bound--, bound-*, nat_abs_le_of, nat_abs_sq}
 use Rattle.whole.proofs.Fits.{small_fits, gives}
 use Rattle.certificate.specs.Terms.{box_term, square_term, smaller, square_counts, cell_term}
 use Rattle.std.specs.Prelude.{if◌then◌else◌}
@@ -22,9 +22,8 @@ use Rattle.jobs.proofs.Places.{upto_le}
 use Rattle.tally.specs.declared.term.Supplied.{Supplied}
 use Rattle.tally.specs.declared.term.Supplied.TheVariants.{ByBox, ByWeight}
 use Rattle.tally.specs.Supplied.{limit, lesser_of, supplied, amount_of}
-use Rattle.tally.specs.Given.{Boxed, Squares, CellNumbers, LinkNumbers, Settles, Amount}
-use Rattle.tally.specs.Tally.{settled_of}
-use Rattle.tally.proofs.Locals.{read, rate_read, weight_read, multiplier_read, tolerance_fits}
+use Rattle.tally.specs.Given.{Boxed, Squares, CellNumbers, LinkNumbers, Amount}
+use Rattle.tally.proofs.Locals.{read, rate_read, weight_read, multiplier_read}
 
 -- ---- the box term
 
@@ -158,14 +157,6 @@ module _ {w r : ℤ} (h : Squares w r) where
   quotient_fits = small_fits (square_term w r) quotient_small (lit< tt)
 
 -- ---- where the square counts
-
-pub near_low : (r : ℤ) → lt_z r (negsuc 1999999999) ≡ true → false ≡ leb (nat_abs r) limit
-near_low (pos n) e = clash (cc)
-near_low (negsuc n) e = sym (lt-leb (suc n) limit (omega (arith, ltb-true 1999999999 n e)))
-
-pub near_else : (r : ℤ) → lt_z r (negsuc 1999999999) ≡ false → le_z r (pos 2000000000) ≡ leb (nat_abs r) limit
-near_else (pos n) e = refl
-near_else (negsuc n) e = sym (le-leb (suc n) limit (omega (arith, ltb-false 1999999999 n e)))
 
 some_weight : (w : ℤ) → lt_z (pos 0) w ≡ true → 1 ≤ nat_abs w
 some_weight (pos n) e = ltb-true 0 n e
@@ -307,23 +298,3 @@ module _ {y b s : ℤ} (h : LinkNumbers y b s) where
 -- a total that is not past the tolerance is small
 pub not_past : {tolerance total : ℤ} → Upto 1000000000000000 tolerance → pos 0 ≤ℤ total → total ≤ℤ tolerance → nat_abs total ≤ 1000000000000000
 not_past h k l = nat_abs_le_of (≤ℤ-trans l (upto_le h)) (≤ℤ-trans (le_z_yes tt) k)
-
-module _ {tolerance total t : ℤ} (h : Settles tolerance total t) where
-  total_read : read total ≡ total
-  total_read = gives refl (small_fits total h.total_small (lit< tt))
-
-  told : {o : Bool} → le_z (read total) (read tolerance) ≡ o → le_z total tolerance ≡ o
-  told e = sym (ap₂ le_z total_read (gives refl (tolerance_fits h.tolerance_in))) ∙ e
-
-  pub total_is : read total +ℤ read t ≡ total +ℤ t
-  total_is = ap₂ ◌+ℤ◌ total_read (gives refl (small_fits t h.t_small (lit< tt)))
-
-  pub total_fits : le_z (read total) (read tolerance) ≡ true → SFits w64 (total +ℤ t)
-  total_fits e =
-      small_fits (total +ℤ t) (bound-+ total t (not_past h.tolerance_in h.total_least (le_z_yes (true_t (told e)))) h.t_small) (lit< tt)
-
-  pub more_result : le_z (read total) (read tolerance) ≡ true → read (read total +ℤ read t) ≡ settled_of tolerance total t
-  more_result e = gives total_is (total_fits e) ∙ ap (λ (o : Bool). cond o (total +ℤ t) total) (sym (told e))
-
-  pub same_result : le_z (read total) (read tolerance) ≡ false → read total ≡ settled_of tolerance total t
-  same_result e = total_read ∙ ap (λ (o : Bool). cond o (total +ℤ t) total) (sym (told e))

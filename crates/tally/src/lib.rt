@@ -51,11 +51,7 @@ pub fn tallied(tolerance: i64, tally: Tally, t: i64, place: usize) -> Tally
             place,
         };
     }
-    Tally {
-        total,
-        largest: tally.largest,
-        place: tally.place,
-    }
+    Tally { total, ..tally }
 }
 
 // The place of the largest term, by the tally of n cells and that of the links.

@@ -41,20 +41,14 @@ fn square_term(w: i64, r: i64) -> i64
 fn is_near(r: i64) -> bool
     ensures { result ≡ leb (nat_abs r) limit }
 {
-    if r < -LIMIT {
-        return false;
-    }
-    r <= LIMIT
+    -LIMIT <= r && r <= LIMIT
 }
 
 // Whether the square counts beside the box: w is not 0, and r is near.
 fn square_counts(w: i64, r: i64) -> bool
     ensures { result ≡ square_counts limit w r }
 {
-    if 0 < w {
-        return is_near(r);
-    }
-    false
+    0 < w && is_near(r)
 }
 
 // The smaller of the two, the box term if they tie.

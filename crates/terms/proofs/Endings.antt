@@ -1,10 +1,10 @@
 -- How a listing ends: all places or 13, the check's refusals but for 9, and from words back to the packs that they were read of.
-use Prim.Native.Nat.{ℕ, ◌+◌, ◌*◌, ◌≤◌, ◌<◌}
+use Prim.Native.Nat.{ℕ, ◌+◌, ◌*◌, ◌≤◌}
 use mathlib.Core.Path.{◌≡◌, refl, sym, ap, ap₂, subst, subst₂, ◌∙◌}
 use mathlib.Core.Bool.{Bool, true, false}
 use mathlib.Core.List.{List, []}
 use native.Mathlib.Omega.{arith}
-use borrow.Author.Tests.{lt-ltb, le-ltb, eqb-true}
+use borrow.Author.Tests.{eqb-true}
 use lib.Dec.{eqb}
 use lib.IntN.{ℤ}
 use lib.ListN.{length, take}
@@ -30,31 +30,6 @@ use Rattle.measure.proofs.Verdicts.{met_judged, met_refused, unmet_number}
 use Rattle.measure.proofs.Packed.{both_checked, job_part, proposal_part, unread_number, unread_refused}
 use Rattle.terms.specs.Listing.{end_of, list_for, terms_of}
 use Rattle.terms.specs.Steps.{entries_on}
-
--- ---- all places, or 13
-
-module _ (ws ps : List ℤ) {n count : ℕ} (en : n ≡ cells_of ws) (ec : count ≡ links_of ws) (out : List ℤ) where
-  abbrev whole : ℕ
-  whole = 3 * (cells_of ws + links_of ws)
-
-  whole_is : 3 * (n + count) ≡ whole
-  whole_is = ap₂ (λ (a b : ℕ). 3 * (a + b)) en ec
-
-  abbrev handed : Bool → Ran
-  handed o = if o then record { words = []; outcome = Refuses 13 whole } else record { words = entries_on ws ps (cells_of ws + links_of ws); outcome = Done whole }
-
-  pub list_refused : length out < 3 * (n + count) → Hands (handed_out (length out) (entries_on ws ps (cells_of ws + links_of ws)) (Done whole)) out (Refuses 13 (3 * (n + count))) out
-  list_refused h =
-      subst (λ (o : Bool). Hands (handed o) out (Refuses 13 (3 * (n + count))) out)
-      (sym (lt-ltb (length out) whole (subst (λ (k : ℕ). length out < k) whole_is h)))
-      (ap (Refuses 13) whole_is, refl)
-
-  pub list_done : 3 * (n + count) ≤ length out → {after : List ℤ} → after ≡ sets out 0 (entries_on ws ps (n + count))
-      → Hands (handed_out (length out) (entries_on ws ps (cells_of ws + links_of ws)) (Done whole)) out (Done (3 * (n + count))) after
-  list_done h {after} e =
-      subst (λ (o : Bool). Hands (handed o) out (Done (3 * (n + count))) after)
-      (sym (le-ltb (length out) whole (subst (λ (k : ℕ). k ≤ length out) whole_is h)))
-      (ap Done whole_is, e ∙ ap₂ (λ (a b : ℕ). sets out 0 (entries_on ws ps (a + b))) en ec)
 
 -- ---- as the check refuses, 9 excepted
 

@@ -11,7 +11,7 @@ use native.Mathlib.Numerals.{add-one}
 use borrow.Author.Tests.{lt-ltb, le-ltb}
 use lib.Dec.{ltb}
 use lib.IntN.{ℤ, pos}
-use lib.ListN.{length, set, length-append, get_or-append}
+use lib.ListN.{length, length-append, get_or-append}
 use lib.Seq.{sets, get_or-append-add}
 use Rattle.std.specs.Prelude.{if◌then◌else◌}
 use Rattle.numbers.proofs.Stores.{sets_append}
@@ -19,9 +19,8 @@ use Rattle.jobs.specs.Job.{Job}
 use Rattle.jobs.specs.Words.{word_at, cells_of, job_of}
 use Rattle.tally.specs.declared.term.Supplied.{Supplied}
 use Rattle.tally.specs.Supplied.{amount_of}
-use Rattle.tally.specs.Given.{Amount}
 use Rattle.tally.proofs.Locals.{read}
-use Rattle.tally.proofs.Terms.{supplied_amount, amount_read}
+use Rattle.tally.proofs.Terms.{supplied_amount}
 use Rattle.measure.specs.Gap.{residual_of, supplied_of}
 use Rattle.measure.specs.Largest.{term_at}
 use Rattle.measure.specs.Given.{Totalling}
@@ -70,10 +69,6 @@ entry_next j v y lent k {out} {after} {a} {r} {s} eo q ea er es =
     ∙ sym (sets_append (entries j v y k) (entry_at j v y k) lent 0)
     ∙ ap (sets lent 0) (entries_next j v y k)
 
--- the three stores of the code
-pub three_words : (l : List ℤ) (at : ℕ) (a r s : ℤ) → set (set (set l at a) (at + 1) r) (at + 2) s ≡ sets l at (a ∷ r ∷ s ∷ [])
-three_words l at a r s = let e : at + 1 ≡ suc at = omega arith in let q : at + 2 ≡ suc (suc at) = omega arith in rw (e, q)
-
 -- ---- a cell's
 
 pub side_cell : (j : Job) (v y : ℕ → ℤ) (i : ℕ) → i < j.cells → side_at j v y i ≡ side_of (supplied_of j v y i)
@@ -102,13 +97,6 @@ module _ {ws ps : List ℤ} {n : ℕ} {parts : List ℤ} {start : ℤ} (H : Tota
 
 -- ---- a cell's words, by who supplied the term
 
-pub cell_put : (l : List ℤ) (k : ℕ) (r : ℤ) {t u : Supplied} → Amount t → t ≡ u → read r ≡ r → {after : List ℤ} → after ≡ sets l k (read (amount_of u) ∷ read r ∷ side_of u ∷ [])
-    → after ≡ sets l k (amount_of t ∷ r ∷ side_of t ∷ [])
-cell_put l k r {t} {u} A e er q =
-    q
-    ∙ ap (λ (x : Supplied). sets l k (read (amount_of x) ∷ read r ∷ side_of x ∷ [])) (sym e)
-    ∙ ap₂ (λ (x z : ℤ). sets l k (x ∷ z ∷ side_of t ∷ [])) (amount_read A) er
-
 -- ---- a link's
 
 beyond : (n l : ℕ) → ltb (n + l) n ≡ false
@@ -121,9 +109,6 @@ pub residual_link : (j : Job) (v y : ℕ → ℤ) (l : ℕ) → residual_at j v 
 residual_link j v y l = ap (λ (o : Bool). if o then residual_of j v y (j.cells + l) else pos 0) (beyond j.cells l)
 
 module _ (ws ps : List ℤ) {n : ℕ} (en : n ≡ cells_of ws) where
-  pub longer_none : {out : List ℤ} → Longer ws ps n (n + 0) out out
-  longer_none = record { from = λ lent e. e ∙ ap (λ (m : ℕ). sets lent 0 (entries_on ws ps m)) (omega arith) }
-
   pub link_next : (l : ℕ) {t : ℤ} → t ≡ link_term_on ws ps l → {out₀ out after : List ℤ} → Longer ws ps n (n + l) out₀ out
       → after ≡ sets out (3 * (n + l)) (t ∷ pos 0 ∷ pos 2 ∷ []) → Longer ws ps n (n + (l + 1)) out₀ after
   link_next l {t} et {out₀} {out} {after} L k = record {

@@ -25,12 +25,10 @@ fn list_cells(words: &[i64], proposal: &[i64], n: usize, parts: &[i64], out: &mu
     requires { Totalling words.now proposal.now n parts.now (pos 0) × (3 * n ≤ length out.old) }
     ensures { out.new ≡ sets out.old 0 (entries_on words.now proposal.now n) }
 {
-    let mut i: usize = 0;
-    while i < n {
+    for i in 0..n {
         let r = residual::residual_at(words, proposal, i, parts[i]);
         let t = gap::cell_term_at(words, proposal, i, r);
         put_cell(out, i, r, t);
-        i += 1;
     }
 }
 
@@ -40,15 +38,13 @@ fn list_links(words: &[i64], proposal: &[i64], n: usize, count: usize, out: &mut
     ensures { Longer words.now proposal.now n (n + count) out.old out.new }
 {
     let mut s = words::first_link_of(words, n);
-    let mut l: usize = 0;
-    while l < count {
+    for l in 0..count {
         let place = n + l;
         let y = proposal[place];
         let sum = links::link_sum(words, proposal, s);
         let b = links::bound_of(words, s);
         put_entry(out, place, term::link_term(y, b, sum), 0, BY_LINK);
         s = links::next_start(words, s);
-        l += 1;
     }
 }
 

@@ -9,8 +9,5 @@ use Rattle.linked.proofs.propose_for.Goals as goal
 pub returns-then-columns-gt-COLUMNS : goal.returns-then-columns-gt-COLUMNS
 returns-then-columns-gt-COLUMNS c = rw (← wide_linked (length c.args.out.now) c.args.given (job_of c.args.words.now) (omega (arith, c.if-columns-gt-COLUMNS.true, c.columns_of-columns.ensures))) (refl, refl)
 
-pub search_shape-requires : goal.search_shape-requires
-search_shape-requires c = (c.requires.0, c.columns_of-columns.ensures, omega (arith, c.if-columns-gt-COLUMNS.false), c.requires.1)
-
 pub returns : goal.returns
 returns c = rw (← narrow_linked (length c.args.out.now) c.args.given (job_of c.args.words.now) (omega (arith, c.if-columns-gt-COLUMNS.false, c.columns_of-columns.ensures))) c.search_shape.ensures

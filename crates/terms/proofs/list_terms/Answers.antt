@@ -8,12 +8,6 @@ use Rattle.measure.proofs.Packed.{job_room, lent_length, parts_given, proposal_r
 use Rattle.terms.proofs.Endings.{packs_listed, packs_unread}
 use Rattle.terms.proofs.list_terms.Goals as goal
 
-pub slice_bounds-list_parts-end : goal.slice_bounds-list_parts-end
-slice_bounds-list_parts-end c = lent_length 2092 (read_job c.args.job.now).words _ c.open_both-opened.ensures.1
-
-pub slice_bounds-list_parts-end-in-Both : goal.slice_bounds-list_parts-end-in-Both
-slice_bounds-list_parts-end-in-Both c = lent_length 280 (proposal_words c.args.job.now c.args.proposal.now) _ c.open_both-opened.ensures.2
-
 pub list_parts-requires : goal.list_parts-requires
 list_parts-requires c = let w = lent_length 2092 (read_job c.args.job.now).words c.open_both-opened.new.words c.open_both-opened.ensures.1 in let v = lent_length 280 (proposal_words c.args.job.now c.args.proposal.now) c.open_both-opened.new.values c.open_both-opened.ensures.2 in
     (job_room c.args.job.now c.args.proposal.now (sym c.open_both-opened.ensures.0 ∙ c.in-Both.is) (sym w) (replicate 2092 (pos 0)) c.open_both-opened.ensures.1 (sym v) (replicate 280 (pos 0)) c.open_both-opened.ensures.2, proposal_room c.args.job.now c.args.proposal.now (sym c.open_both-opened.ensures.0 ∙ c.in-Both.is) (sym w) (replicate 2092 (pos 0)) c.open_both-opened.ensures.1 (sym v) (replicate 280 (pos 0)) c.open_both-opened.ensures.2, parts_given c.args.job.now c.args.proposal.now (sym c.open_both-opened.ensures.0 ∙ c.in-Both.is) (sym w) (replicate 2092 (pos 0)) c.open_both-opened.ensures.1 (sym v) (replicate 280 (pos 0)) c.open_both-opened.ensures.2)

@@ -1,4 +1,4 @@
-use mathlib.Core.Path.{refl, sym, ap, ◌∙◌}
+use mathlib.Core.Path.{sym, ap, ◌∙◌}
 use Prim.Native.Nat.{ℕ, ◌+◌, ◌-◌}
 use native.Mathlib.Omega.{arith}
 use lib.Ieee.{Float, nan}
@@ -8,23 +8,18 @@ use Rattle.factor.specs.Solve.{upper_term, backward_from}
 use Rattle.factor.proofs.Turns.{fewer_rows, backward_more, backward_done}
 use Rattle.factor.proofs.solve.backward.Goals as goal
 
-pub loop-left-init : goal.loop-left-init
-loop-left-init c = (omega arith, refl)
-
 pub less_upper-rest-requires : goal.less_upper-rest-requires
 less_upper-rest-requires c = let high = c.highest_of-top.ensures in
     (omega arith, omega arith, omega arith, fewer_rows (omega arith) c.requires.2)
 
-pub loop-left-preserved : goal.loop-left-preserved
-loop-left-preserved c = let a = c.args in
-    let j = c.loop-left.left - 1 in
-    let v = c.loop-left.v in
-    let high = c.highest_of-top.ensures in (
-      omega arith,
-      ap (λ (x : Float). backward_from a.l.now a.z a.n j (set v j x)) (c.less_upper-rest.ensures ∙ ap (λ (k : ℕ). less_by (upper_term a.z a.l.now j v) (j + 1) (k - j) (get_or v j nan)) high)
-          ∙ sym (backward_more a.l.now a.z a.n v c.loop-left.left (omega arith)) ∙ c.loop-left.invariant.1,
-    )
+pub loop-j-preserved : goal.loop-j-preserved
+loop-j-preserved c = let a = c.args in
+    let j = c.loop-j.j - 1 in
+    let v = c.loop-j.v in
+    let high = c.highest_of-top.ensures in
+    ap (λ (x : Float). backward_from a.l.now a.z a.n j (set v j x)) (c.less_upper-rest.ensures ∙ ap (λ (k : ℕ). less_by (upper_term a.z a.l.now j v) (j + 1) (k - j) (get_or v j nan)) high)
+    ∙ sym (backward_more a.l.now a.z a.n v c.loop-j.j (omega arith)) ∙ c.loop-j.invariant
 
 pub returns : goal.returns
 returns c = let a = c.args in
-    sym (backward_done a.l.now a.z a.n c.loop-left.v c.loop-left.left (omega arith)) ∙ c.loop-left.invariant.1
+    sym (backward_done a.l.now a.z a.n c.loop-j.v c.loop-j.j (omega arith)) ∙ c.loop-j.invariant

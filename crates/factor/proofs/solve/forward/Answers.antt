@@ -1,4 +1,4 @@
-use mathlib.Core.Path.{◌≡◌, sym, ap, ap₂, ◌∙◌}
+use mathlib.Core.Path.{sym, ap, ap₂, ◌∙◌}
 use Prim.Native.Nat.{ℕ, ◌+◌, ◌-◌}
 use native.Mathlib.Omega.{arith}
 use mathlib.Core.List.{List}
@@ -9,11 +9,6 @@ use Rattle.factor.specs.Solve.{lower_term, forward_from}
 use Rattle.factor.proofs.Turns.{row_ends, row_inside, row_part, row_length, forward_more, forward_done}
 use borrow.Author.Rules.{rules}
 use Rattle.factor.proofs.solve.forward.Goals as goal
-
-pub loop-j-init : goal.loop-j-init
-loop-j-init c = let a = c.args in
-    let e : a.n - 0 ≡ a.n = omega arith in
-    (omega arith, rw e)
 
 pub slice_bounds-less_lower-count : goal.slice_bounds-less_lower-count
 slice_bounds-less_lower-count c = let e = row_ends c.requires.1 c.loop-j.j (omega arith) c.start_at-at.ensures.0 c.start_at-end.ensures.0 in
@@ -38,12 +33,10 @@ loop-j-preserved c = let a = c.args in
     let y = c.loop-j.y in
     let low = c.lowest_of-lo.ensures in
     let row = row_part c.requires.1 j (omega arith) c.start_at-at.ensures.0 c.start_at-end.ensures.0 in
-    let got = c.less_lower-rest.ensures ∙ ap₂ (λ (k : ℕ) (lj : List Float). less_by (lower_term lj j y) k (j - k) (get_or y j nan)) low row in (
-      omega arith,
-      ap (λ (x : Float). forward_from a.l.now a.z (a.n - (j + 1)) (j + 1) (set y j x)) got
-          ∙ sym (forward_more a.l.now a.z j a.n y (omega arith)) ∙ c.loop-j.invariant.1,
-    )
+    let got = c.less_lower-rest.ensures ∙ ap₂ (λ (k : ℕ) (lj : List Float). less_by (lower_term lj j y) k (j - k) (get_or y j nan)) low row in
+    ap (λ (x : Float). forward_from a.l.now a.z (a.n - (j + 1)) (j + 1) (set y j x)) got
+    ∙ sym (forward_more a.l.now a.z j a.n y (omega arith)) ∙ c.loop-j.invariant
 
 pub returns : goal.returns
 returns c = let a = c.args in
-    sym (forward_done a.l.now a.z c.loop-j.j a.n c.loop-j.y (omega arith)) ∙ c.loop-j.invariant.1
+    sym (forward_done a.l.now a.z c.loop-j.j a.n c.loop-j.y (omega arith)) ∙ c.loop-j.invariant

@@ -1,4 +1,4 @@
-use mathlib.Core.Path.{◌≡◌, sym, ap, ◌∙◌}
+use mathlib.Core.Path.{sym, ap, ◌∙◌}
 use Prim.Native.Nat.{◌+◌, ◌-◌}
 use native.Mathlib.Omega.{arith}
 use lib.Ieee.{Float, binary64, sub, mul, nan}
@@ -6,21 +6,7 @@ use lib.ListN.{get_or}
 use Rattle.factor.specs.Factor.{less_by}
 use Rattle.factor.specs.Solve.{upper_term}
 use Rattle.factor.proofs.Turns.{less_more, less_done, read_inside, multiplier_read}
-use borrow.Author.Rules.{rules}
 use Rattle.factor.proofs.solve.less_upper.Goals as goal
-
-pub loop-m-init : goal.loop-m-init
-loop-m-init c = let a = c.args in
-    let e : a.top + 1 - (a.j + 1) ≡ a.top - a.j = omega arith in
-    (omega arith, omega arith, rw e)
-
-pub overflow_add-place : goal.overflow_add-place
-overflow_add-place c = let r = read_inside c.requires.3 c.loop-m.m c.args.j (omega arith) (omega arith) (omega arith) c.start_at-at.ensures.0 in
-    search rules
-
-pub offset_bounds-l-place : goal.offset_bounds-l-place
-offset_bounds-l-place c = let r = read_inside c.requires.3 c.loop-m.m c.args.j (omega arith) (omega arith) (omega arith) c.start_at-at.ensures.0 in
-    search rules
 
 pub bounds-l-place : goal.bounds-l-place
 bounds-l-place c = read_inside c.requires.3 c.loop-m.m c.args.j (omega arith) (omega arith) (omega arith) c.start_at-at.ensures.0
@@ -29,13 +15,10 @@ pub loop-m-preserved : goal.loop-m-preserved
 loop-m-preserved c = let a = c.args in
     let m = c.loop-m.m in
     let read = multiplier_read c.requires.3 m a.j (omega arith) (omega arith) (omega arith) c.start_at-at.ensures.0 in
-    let t = upper_term a.z a.l.now a.j a.v.now in (
-      omega arith,
-      omega arith,
-      ap (λ (x : Float). less_by t (m + 1) (a.top + 1 - (m + 1)) (sub binary64 c.loop-m.rest (mul binary64 x (get_or a.v.now m nan)))) read
-          ∙ sym (less_more t m (a.top + 1) c.loop-m.rest (omega arith)) ∙ c.loop-m.invariant.2,
-    )
+    let t = upper_term a.z a.l.now a.j a.v.now in
+    ap (λ (x : Float). less_by t (m + 1) (a.top + 1 - (m + 1)) (sub binary64 c.loop-m.rest (mul binary64 x (get_or a.v.now m nan)))) read
+    ∙ sym (less_more t m (a.top + 1) c.loop-m.rest (omega arith)) ∙ c.loop-m.invariant
 
 pub returns : goal.returns
 returns c = let a = c.args in
-    sym (less_done (upper_term a.z a.l.now a.j a.v.now) c.loop-m.m (a.top + 1) c.loop-m.rest (omega arith)) ∙ c.loop-m.invariant.2
+    sym (less_done (upper_term a.z a.l.now a.j a.v.now) c.loop-m.m (a.top + 1) c.loop-m.rest (omega arith)) ∙ c.loop-m.invariant

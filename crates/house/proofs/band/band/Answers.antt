@@ -1,44 +1,12 @@
-use Rattle.std.proofs.Common.{◌≡◌, ℕ, ◌+◌, ◌-◌, ◌<◌, List, set, replicate, ℤ, sym, ap, ◌∙◌, ap₂, arith, rules}
-use native.Mathlib.Nat as N
+use Rattle.std.proofs.Common.{◌≡◌, ℕ, ◌+◌, ◌-◌, ◌<◌, List, set, replicate, ℤ, sym, ap, ◌∙◌, ap₂, arith}
 use lib.Ieee.{Float, of_bits}
 use Rattle.jobs.specs.Words.{cells_of}
 use Rattle.house.specs.Filled.{filled}
 use Rattle.house.specs.Band.{entries_of, zero64}
 use Rattle.house.proofs.Fills.{filled_more, filled_done}
-use Rattle.house.proofs.Told.{cells_few, order_few, weight_is, weight_small, constant_is, constant_small}
+use Rattle.house.proofs.Told.{weight_is, constant_is}
 use Rattle.house.proofs.band.band.Invariants.{lines}
 use Rattle.house.proofs.band.band.Goals as goal
-
-pub row_of-row-requires : goal.row_of-row-requires
-row_of-row-requires c = omega (arith, order_few c.requires.0, c.requires.2)
-
-pub loop-i-init : goal.loop-i-init
-loop-i-init c = let a = c.args in
-    let e : a.n - 0 ≡ a.n = omega arith in
-    (omega arith, rw e)
-
-pub weight_at-w-requires : goal.weight_at-w-requires
-weight_at-w-requires c = (c.requires.0.allowed, (c.requires.0.laid, omega (arith, c.requires.1)))
-
-pub constant_of-k-requires : goal.constant_of-k-requires
-constant_of-k-requires c = (c.requires.0.allowed, c.requires.0.laid)
-
-pub entries_of-entries-requires : goal.entries_of-entries-requires
-entries_of-entries-requires c = let k = c.requires.0 in
-    let ws = c.args.words.now in
-    let i = c.loop-i.i in
-    let h : i < cells_of ws = omega (arith, c.requires.1) in
-    rw (weight_is k h c.weight_at-w.ensures, constant_is k c.constant_of-k.ensures)
-    (N.le_trans (weight_small k h) (omega arith), constant_small k, omega (arith, cells_few k, c.requires.1), omega (arith, order_few k, c.requires.2), omega arith, c.row_of-row.ensures)
-
-pub offset_bounds-made-i : goal.offset_bounds-made-i
-offset_bounds-made-i c = let few = cells_few c.requires.0 in search rules
-
-pub bounds-made-i : goal.bounds-made-i
-bounds-made-i c = let few = cells_few c.requires.0 in search rules
-
-pub overflow_add-i : goal.overflow_add-i
-overflow_add-i c = let few = cells_few c.requires.0 in search rules
 
 pub loop-i-preserved : goal.loop-i-preserved
 loop-i-preserved c = let k = c.requires.0 in
@@ -47,14 +15,12 @@ loop-i-preserved c = let k = c.requires.0 in
     let made = c.loop-i.made in
     let h : i < cells_of ws = omega (arith, c.requires.1) in
     let e : c.entries_of-entries.result ≡ lines ws c.args.n c.args.z i =
-    c.entries_of-entries.ensures ∙ ap₂ (λ (w k : ℤ). entries_of w k c.args.n c.args.z i) (weight_is k h c.weight_at-w.ensures) (constant_is k c.constant_of-k.ensures) in (
-      omega arith,
-      ap (λ (x : List Float). filled (lines ws c.args.n c.args.z) (c.args.n - (i + 1)) (i + 1) (set made i x)) e
-          ∙ sym (filled_more (lines ws c.args.n c.args.z) i c.args.n made (omega arith)) ∙ c.loop-i.invariant.1,
-    )
+    c.entries_of-entries.ensures ∙ ap₂ (λ (w k : ℤ). entries_of w k c.args.n c.args.z i) (weight_is k h c.weight_at-w.ensures) (constant_is k c.constant_of-k.ensures) in
+    ap (λ (x : List Float). filled (lines ws c.args.n c.args.z) (c.args.n - (i + 1)) (i + 1) (set made i x)) e
+    ∙ sym (filled_more (lines ws c.args.n c.args.z) i c.args.n made (omega arith)) ∙ c.loop-i.invariant
 
 pub returns : goal.returns
 unfolding of_bits
 returns c = let ws = c.args.words.now in
-    sym (filled_done (lines ws c.args.n c.args.z) c.loop-i.i c.args.n c.loop-i.made (omega arith)) ∙ c.loop-i.invariant.1
+    sym (filled_done (lines ws c.args.n c.args.z) c.loop-i.i c.args.n c.loop-i.made (omega arith)) ∙ c.loop-i.invariant
     ∙ ap₂ (λ (n z : ℕ). filled (lines ws n z) n 0 (replicate 120 (replicate 5 zero64))) c.requires.1 c.requires.2

@@ -1,5 +1,5 @@
 -- After i turns the places below i hold their rows.
-use Rattle.std.proofs.Common.{◌≡◌, ℕ, ◌-◌, ◌≤◌, List, ℤ}
+use Rattle.std.proofs.Common.{◌≡◌, ℕ, ◌-◌, List, ℤ}
 use lib.Ieee.{Float}
 use Rattle.jobs.specs.Words.{job_of}
 use Rattle.house.specs.Filled.{filled}
@@ -11,7 +11,4 @@ abbrev pub lines : List ℤ → (n z : ℕ) → ℕ → List Float
 lines ws n z i = entries_of ((job_of ws).weight i) (job_of ws).constant n z i
 
 abbrev pub invariant-loop-i : goal.invariant-loop-i
-invariant-loop-i l = (l.i ≤ l.n) × (filled (lines l.words l.n l.z) (l.n - l.i) l.i l.made ≡ filled (lines l.words l.n l.z) l.n 0 l.initial.made)
-
-abbrev pub decreases-loop-i : goal.decreases-loop-i
-decreases-loop-i l = l.n - l.i
+invariant-loop-i l = filled (lines l.words l.n l.z) (l.n - l.i) l.i l.made ≡ filled (lines l.words l.n l.z) l.n 0 l.initial.made

@@ -1,6 +1,5 @@
 -- Each part is small, so the entry is held exactly.
-use Rattle.std.proofs.Common.{◌≡◌, ap, ◌∙◌, lit<}
-use lib.Ieee.{binary64, of_int}
+use Rattle.std.proofs.Common.{◌≡◌, ◌∙◌, lit<}
 use Rattle.house.specs.Band.{squares_at, whole_entry}
 use Rattle.house.proofs.Told.{word_is}
 use Rattle.house.proofs.Sizes.{squares_small, entry_small}
@@ -17,11 +16,3 @@ cast-requires c = let a = c.args in
     c.whole_entry-whole.ensures ∙ rw (word_is a.w c.requires.0 (lit< tt), word_is a.k c.requires.1 (lit< tt), c.squares_at-squares.ensures, word_is (squares_at a.n a.z a.i a.o) small (lit< tt)) in
     let h = entry_small a.w a.k (squares_at a.n a.z a.i a.o) c.requires.0 c.requires.1 small a.o in
     rw (e, word_is (whole_entry a.w a.k (squares_at a.n a.z a.i a.o) a.o) h (lit< tt)) h
-
-pub returns : goal.returns
-returns c = let a = c.args in
-    let small = squares_small a.n a.z a.i a.o c.requires.3 in
-    let e : c.whole_entry-whole.result ≡ whole_entry a.w a.k (squares_at a.n a.z a.i a.o) a.o =
-    c.whole_entry-whole.ensures ∙ rw (word_is a.w c.requires.0 (lit< tt), word_is a.k c.requires.1 (lit< tt), c.squares_at-squares.ensures, word_is (squares_at a.n a.z a.i a.o) small (lit< tt)) in
-    let h = entry_small a.w a.k (squares_at a.n a.z a.i a.o) c.requires.0 c.requires.1 small a.o in
-    c.cast.ensures ∙ ap (of_int binary64) (rw e (word_is (whole_entry a.w a.k (squares_at a.n a.z a.i a.o) a.o) h (lit< tt)))

@@ -1,18 +1,8 @@
 -- The tests are those of `uses_both`, and coefficients are small.
-use Rattle.std.proofs.Common.{◌-◌, arith, lit<, le-ltb, lt-ltb, le-leb}
-use borrow.Author.Tests.{lt-leb}
+use Rattle.std.proofs.Common.{◌-◌, arith, lit<, lt-ltb, le-leb}
 use Rattle.rows.proofs.Rule.{row_small}
 use Rattle.house.proofs.Sizes.{product_fits, product_is}
 use Rattle.house.proofs.band.product_term.Goals as goal
-
-pub returns-then-m-o : goal.returns-then-m-o
-returns-then-m-o c = rw (lt-leb _ _ c.if-m-o.true)
-
-pub returns-then-i-m : goal.returns-then-i-m
-returns-then-i-m c = rw (le-leb _ _ c.if-m-o.false, lt-leb _ _ c.if-i-m.true)
-
-pub returns-then-n-last : goal.returns-then-n-last
-returns-then-n-last c = rw (le-leb _ _ c.if-m-o.false, le-leb _ _ c.if-i-m.false, le-ltb _ _ c.if-n-last.true)
 
 pub overflow_mul-result : goal.overflow_mul-result
 overflow_mul-result c = let a = c.args in

@@ -1,5 +1,5 @@
 -- After i turns the places below i hold their products.
-use Rattle.std.proofs.Common.{◌≡◌, ℕ, ◌-◌, ◌≤◌, List, ℤ, ◌*ℤ◌}
+use Rattle.std.proofs.Common.{◌≡◌, ℕ, ◌-◌, List, ℤ, ◌*ℤ◌}
 use lib.Ieee.{Float, binary64, of_int}
 use Rattle.jobs.specs.Words.{job_of}
 use Rattle.house.specs.Filled.{filled}
@@ -10,7 +10,4 @@ abbrev pub products : List ℤ → ℕ → Float
 products ws i = of_int binary64 ((job_of ws).weight i *ℤ (job_of ws).crude i)
 
 abbrev pub invariant-loop-i : goal.invariant-loop-i
-invariant-loop-i l = (l.i ≤ l.n) × (filled (products l.words) (l.n - l.i) l.i l.made ≡ filled (products l.words) l.n 0 l.initial.made)
-
-abbrev pub decreases-loop-i : goal.decreases-loop-i
-decreases-loop-i l = l.n - l.i
+invariant-loop-i l = filled (products l.words) (l.n - l.i) l.i l.made ≡ filled (products l.words) l.n 0 l.initial.made

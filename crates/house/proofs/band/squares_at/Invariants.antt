@@ -1,11 +1,8 @@
 -- After m turns the total is the sum of the terms below m.
-use Rattle.std.proofs.Common.{◌≡◌, ◌+◌, ◌-◌, ◌≤◌}
+use Rattle.std.proofs.Common.{◌≡◌}
 use Rattle.whole.specs.Sum.{sum}
 use Rattle.house.specs.Band.{product_term}
 use Rattle.house.proofs.band.squares_at.Given as goal
 
 abbrev pub invariant-loop-m : goal.invariant-loop-m
-invariant-loop-m l = (l.m ≤ l.z + 1) × (l.total ≡ sum l.m (product_term l.n l.z l.i l.o))
-
-abbrev pub decreases-loop-m : goal.decreases-loop-m
-decreases-loop-m l = l.z + 1 - l.m
+invariant-loop-m l = l.total ≡ sum l.m (product_term l.n l.z l.i l.o)

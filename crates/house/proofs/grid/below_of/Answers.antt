@@ -1,25 +1,12 @@
 -- The numbers are those of the job, and the entries those of its row.
-use Rattle.std.proofs.Common.{◌≡◌, ◌/◌, ◌∙◌, ap₂, arith, rules}
+use Rattle.std.proofs.Common.{◌≡◌, ◌/◌, ◌∙◌, ap₂, arith}
 use native.Mathlib.Nat as N
 use Rattle.jobs.specs.Words.{rows_of}
 use Rattle.house.specs.Band.{entries_of}
 use Rattle.house.proofs.Told.{weight_is, weight_small, constant_is, constant_small}
-use Rattle.house.proofs.Shaped.{columns_some, rows_are, second_is, second_small}
-use Rattle.house.proofs.Places.{rows_few, row_of_cell, place_of_cell, columns_within, side_small, squares_is, diagonal_small, diagonal_is}
+use Rattle.house.proofs.Shaped.{rows_are, second_is, second_small}
+use Rattle.house.proofs.Places.{rows_few, row_of_cell, side_small, squares_is, diagonal_small, diagonal_is}
 use Rattle.house.proofs.grid.below_of.Goals as goal
-
-pub nonzero_div-rows : goal.nonzero_div-rows
-nonzero_div-rows c = let some = columns_some c.requires.0 in search rules
-
-pub nonzero_div-row : goal.nonzero_div-row
-nonzero_div-row c = let some = columns_some c.requires.0 in search rules
-
-pub nonzero_rem-place : goal.nonzero_rem-place
-nonzero_rem-place c = let some = columns_some c.requires.0 in search rules
-
-pub squares_at-squares-requires : goal.squares_at-squares-requires
-squares_at-squares-requires c = let k = c.requires.0 in
-    rw (c.columns_of-columns.ensures, c.across_of-across.ensures) (columns_within k, k.allowed.across_few, place_of_cell k c.args.i, c.requires.3)
 
 pub whole_entry-whole-requires : goal.whole_entry-whole-requires
 whole_entry-whole-requires c = let k = c.requires.0 in

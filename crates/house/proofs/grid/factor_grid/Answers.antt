@@ -1,52 +1,28 @@
-use Rattle.std.proofs.Common.{◌≡◌, ◌-◌, length, sym, refl, ap, ◌∙◌, arith, rules}
+use Rattle.std.proofs.Common.{length, sym, ap, ◌∙◌, arith}
 use lib.Seq.{length-sets}
 use Rattle.factor.specs.Factor.{start_of, factor_step}
 use Rattle.factor.proofs.Turns.{as_long, fewer_rows, answer_more, answer_thin, factor_done, parts}
 use Rattle.jobs.specs.Words.{job_of}
 use Rattle.house.specs.Grid.{grid_rows}
-use Rattle.house.proofs.Told.{cells_few}
 use Rattle.house.proofs.grid.factor_grid.Goals as goal
 
-pub loop-j-init : goal.loop-j-init
-loop-j-init c = let a = c.args in
-    let e : a.n - 0 ≡ a.n = omega arith in
-    (omega arith, refl, rw e)
-
 pub grid_step-pivot-requires : goal.grid_step-pivot-requires
-grid_step-pivot-requires c = (c.requires.0, omega (arith, c.requires.1), c.requires.2, c.requires.3, fewer_rows (omega arith) (as_long c.requires.4 c.loop-j.invariant.1))
+grid_step-pivot-requires c = (c.requires.0, omega (arith, c.requires.1), c.requires.2, c.requires.3, fewer_rows (omega arith) (as_long c.requires.4 c.loop-j.invariant.0))
 
-pub offset_bounds-d-j : goal.offset_bounds-d-j
-offset_bounds-d-j c = let few = cells_few c.requires.0.known in let e = c.requires.1 in search rules
-
-pub bounds-d-j : goal.bounds-d-j
-bounds-d-j c = let few = cells_few c.requires.0.known in let e = c.requires.1 in search rules
-
-pub shape_of-l-in-Thin : goal.shape_of-l-in-Thin
-shape_of-l-in-Thin c = let a = c.args in
-    let step = c.grid_step-pivot in
-    ap length step.ensures.1 ∙ length-sets c.loop-j.l (start_of a.z c.loop-j.j) (factor_step (grid_rows (job_of a.words.now) c.loop-j.j) c.loop-j.d c.loop-j.l a.z c.loop-j.j).multipliers ∙ c.loop-j.invariant.1
-
-pub returns-in-Thin : goal.returns-in-Thin
-returns-in-Thin c = let a = c.args in
+pub returns-in-Err : goal.returns-in-Err
+returns-in-Err c = let a = c.args in
     let step = c.grid_step-pivot.ensures in
-    parts (sym (answer_thin (grid_rows (job_of a.words.now)) a.z c.loop-j.j c.loop-j.d c.loop-j.l a.n (omega arith) step.0 c.value_of-x.ensures step.1 c.in-Thin.is) ∙ c.loop-j.invariant.2)
-
-pub overflow_add-j : goal.overflow_add-j
-overflow_add-j c = let few = cells_few c.requires.0.known in let e = c.requires.1 in search rules
+    parts (sym (answer_thin (grid_rows (job_of a.words.now)) a.z c.loop-j.j c.loop-j.d c.loop-j.l a.n (omega arith) step.0 c.value_of-x.ensures step.1 c.in-Err.is) ∙ c.loop-j.invariant.1)
 
 pub loop-j-preserved : goal.loop-j-preserved
 loop-j-preserved c = let a = c.args in
     let step = c.grid_step-pivot.ensures in
     let j = c.loop-j.j in
     let band = grid_rows (job_of a.words.now) in (
-      omega arith,
-      ap length step.1 ∙ length-sets c.loop-j.l (start_of a.z j) (factor_step (band j) c.loop-j.d c.loop-j.l a.z j).multipliers ∙ c.loop-j.invariant.1,
-      sym (answer_more band a.z j c.loop-j.d c.loop-j.l a.n (omega arith) step.0 c.value_of-x.ensures step.1 c.in-Accepted.is) ∙ c.loop-j.invariant.2,
+      ap length step.1 ∙ length-sets c.loop-j.l (start_of a.z j) (factor_step (band j) c.loop-j.d c.loop-j.l a.z j).multipliers ∙ c.loop-j.invariant.0,
+      sym (answer_more band a.z j c.loop-j.d c.loop-j.l a.n (omega arith) step.0 c.value_of-x.ensures step.1 c.in_default.is) ∙ c.loop-j.invariant.1,
     )
-
-pub shape_of-l : goal.shape_of-l
-shape_of-l c = c.loop-j.invariant.1
 
 pub returns : goal.returns
 returns c = let a = c.args in
-    parts (sym (factor_done (grid_rows (job_of a.words.now)) a.z c.loop-j.j a.n c.loop-j.d c.loop-j.l (omega arith)) ∙ c.loop-j.invariant.2)
+    parts (sym (factor_done (grid_rows (job_of a.words.now)) a.z c.loop-j.j a.n c.loop-j.d c.loop-j.l (omega arith)) ∙ c.loop-j.invariant.1)

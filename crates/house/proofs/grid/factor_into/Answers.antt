@@ -1,7 +1,5 @@
 -- The row that was made is put to its places.
-use Rattle.std.proofs.Common.{ℕ, List, length, ap, ◌∙◌, ap₂, arith}
-use lib.Ieee.{Float}
-use lib.Seq.{sets}
+use Rattle.std.proofs.Common.{length, ap, ◌∙◌, arith}
 use Rattle.factor.proofs.Turns.{fewer_rows, made_length, row_fits}
 use Rattle.house.proofs.grid.factor_into.Goals as goal
 
@@ -13,9 +11,3 @@ put_row-requires c = let a = c.args in
     let made = c.factor_row-pivot.ensures.1 in
     let len = ap length made ∙ made_length a.entries.now a.d.now a.l.now a.z a.j in
     row_fits c.args.j c.requires.2 c.start_at-at.ensures.0 len
-
-pub returns : goal.returns
-returns c = let a = c.args in
-    let step = c.factor_row-pivot.ensures in
-    let start = c.start_at-at.ensures.0 ∙ c.requires.2.listed.at a.j (omega arith) in
-    (step.0, c.put_row.ensures ∙ ap₂ (λ (k : ℕ) (xs : List Float). sets a.l.now k xs) start step.1, step.1)

@@ -1,24 +1,10 @@
 -- What is spread are the row's own entries, into zeros.
-use Rattle.std.proofs.Common.{◌∙◌, rules}
+use Rattle.std.proofs.Common.{◌∙◌}
 use Rattle.jobs.specs.Words.{job_of}
 use Rattle.house.specs.Held.{spread_of}
 use Rattle.house.proofs.Shaped.{columns_some}
-use Rattle.house.proofs.Places.{reach_few, reach_within}
 use Rattle.house.proofs.Spread.{row_spread}
 use Rattle.house.proofs.grid.grid_row.Goals as goal
-
-pub columns_of-columns-requires : goal.columns_of-columns-requires
-columns_of-columns-requires c = let k = c.requires.0.known in search rules
-
-pub below_of-below-requires : goal.below_of-below-requires
-below_of-below-requires c = (c.requires.0.known, c.requires.1, c.requires.2, c.requires.3)
-
-pub beside_of-beside-requires : goal.beside_of-beside-requires
-beside_of-beside-requires c = (c.requires.0.known, c.requires.3)
-
-pub spread-requires : goal.spread-requires
-spread-requires c = let k = c.requires.0.known in
-    rw (c.columns_of-columns.ensures, c.requires.0.reach_is) (columns_some k, reach_few k c.requires.0.columns_few, reach_within k)
 
 pub returns : goal.returns
 returns c = let n = c.requires.0 in

@@ -7,8 +7,5 @@ use Rattle.house.proofs.proposal.propose_for.Goals as goal
 pub returns-then-columns-gt-COLUMNS : goal.returns-then-columns-gt-COLUMNS
 returns-then-columns-gt-COLUMNS c = rw (← wide_refused (length c.args.out.now) (job_of c.args.words.now) (omega (arith, c.if-columns-gt-COLUMNS.true, c.columns_of-columns.ensures))) (refl, refl)
 
-pub propose_shape-requires : goal.propose_shape-requires
-propose_shape-requires c = (c.requires, c.columns_of-columns.ensures, omega (arith, c.if-columns-gt-COLUMNS.false))
-
 pub returns : goal.returns
 returns c = rw (← narrow_proposed (length c.args.out.now) (job_of c.args.words.now) (omega (arith, c.if-columns-gt-COLUMNS.false, c.columns_of-columns.ensures))) c.propose_shape.ensures

@@ -1,16 +1,10 @@
 -- Nothing is lent for the line's factor, and its ending and values are the job's.
-use Rattle.std.proofs.Common.{length, arith, length-take}
+use Rattle.std.proofs.Common.{length}
 use Rattle.jobs.specs.Words.{job_of}
 use Rattle.house.proofs.Shaped.{one_column}
 use Rattle.house.proofs.Solving.{line_is}
 use Rattle.house.proofs.Handing.{ending_is}
 use Rattle.house.proofs.proposal.propose_line.Goals as goal
-
-pub right-requires : goal.right-requires
-right-requires c = (c.requires.0, c.requires.3)
-
-pub solve_line-ending-requires : goal.solve_line-ending-requires
-solve_line-ending-requires c = (c.requires.0, c.requires.2, c.right.ensures, simp length-take (omega arith), simp length-take (omega arith))
 
 pub returns : goal.returns
 returns c = let j = job_of c.args.words.now in

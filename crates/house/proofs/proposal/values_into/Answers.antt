@@ -1,32 +1,12 @@
-use Rattle.std.proofs.Common.{◌≡◌, ◌+◌, ◌-◌, ◌<◌, get_or, set, ℤ, sym, refl, ap, ◌∙◌, arith, lit<, length-set, rules}
+use Rattle.std.proofs.Common.{◌+◌, ◌-◌, ◌<◌, get_or, set, ℤ, sym, ap, ◌∙◌, arith, lit<, length-set}
 use lib.Ieee.{nan}
 use Rattle.whole.proofs.Fits.{gives, small_fits}
 use Rattle.jobs.specs.Words.{cells_of}
 use Rattle.house.specs.Filled.{filled}
 use Rattle.house.proofs.Fills.{filled_more, filled_done}
-use Rattle.house.proofs.Told.{cells_few}
 use Rattle.house.proofs.Boxed.{value_small}
 use Rattle.house.proofs.proposal.values_into.Invariants.{values}
 use Rattle.house.proofs.proposal.values_into.Goals as goal
-
-pub loop-i-init : goal.loop-i-init
-loop-i-init c = let e : c.args.n - 0 ≡ c.args.n = omega arith in
-    (omega arith, refl, rw e)
-
-pub offset_bounds-v-i : goal.offset_bounds-v-i
-offset_bounds-v-i c = let few = cells_few c.requires.0 in search rules
-
-pub bounds-v-i : goal.bounds-v-i
-bounds-v-i c = let few = cells_few c.requires.0 in search rules
-
-pub value_at-requires : goal.value_at-requires
-value_at-requires c = (c.requires.0, omega (arith, c.requires.1))
-
-pub offset_bounds-made-i : goal.offset_bounds-made-i
-offset_bounds-made-i c = let few = cells_few c.requires.0 in search rules
-
-pub overflow_add-i : goal.overflow_add-i
-overflow_add-i c = let few = cells_few c.requires.0 in search rules
 
 pub loop-i-preserved : goal.loop-i-preserved
 loop-i-preserved c = let ws = c.args.words.now in
@@ -35,12 +15,11 @@ loop-i-preserved c = let ws = c.args.words.now in
     let made = c.loop-i.made in
     let h : i < cells_of ws = omega (arith, c.requires.1) in
     let small = value_small (c.requires.0.allowed.cell i h) (get_or v i nan) in (
-      omega arith,
-      length-set made i _ ∙ c.loop-i.invariant.1,
+      length-set made i _ ∙ c.loop-i.invariant.0,
       ap (λ (x : ℤ). filled (values ws v) (c.args.n - (i + 1)) (i + 1) (set made i x)) (gives c.value_at.ensures (small_fits (values ws v i) small (lit< tt)))
-          ∙ sym (filled_more (values ws v) i c.args.n made (omega arith)) ∙ c.loop-i.invariant.2,
+          ∙ sym (filled_more (values ws v) i c.args.n made (omega arith)) ∙ c.loop-i.invariant.1,
     )
 
 pub returns : goal.returns
 returns c = let f = values c.args.words.now c.args.v.now in
-    sym (filled_done f c.loop-i.i c.args.n c.loop-i.made (omega arith)) ∙ c.loop-i.invariant.2
+    sym (filled_done f c.loop-i.i c.args.n c.loop-i.made (omega arith)) ∙ c.loop-i.invariant.1

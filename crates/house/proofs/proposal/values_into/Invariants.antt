@@ -1,5 +1,5 @@
 -- After i turns the places below i hold their values.
-use Rattle.std.proofs.Common.{◌≡◌, ℕ, ◌-◌, ◌≤◌, List, get_or, length, ℤ}
+use Rattle.std.proofs.Common.{◌≡◌, ℕ, ◌-◌, List, get_or, length, ℤ}
 use lib.Ieee.{Float, nan}
 use Rattle.jobs.specs.Words.{job_of}
 use Rattle.house.specs.Filled.{filled}
@@ -11,7 +11,4 @@ abbrev pub values : List ℤ → List Float → ℕ → ℤ
 values ws v i = value_of (job_of ws) i (get_or v i nan)
 
 abbrev pub invariant-loop-i : goal.invariant-loop-i
-invariant-loop-i l = (l.i ≤ l.n) × (length l.made ≡ length l.initial.made) × (filled (values l.words l.v) (l.n - l.i) l.i l.made ≡ filled (values l.words l.v) l.n 0 l.initial.made)
-
-abbrev pub decreases-loop-i : goal.decreases-loop-i
-decreases-loop-i l = l.n - l.i
+invariant-loop-i l = (length l.made ≡ length l.initial.made) × (filled (values l.words l.v) (l.n - l.i) l.i l.made ≡ filled (values l.words l.v) l.n 0 l.initial.made)

@@ -1,17 +1,10 @@
 -- What is written are the values of the job's cells, with a zero for each link after them.
 use Rattle.std.proofs.Common.{length, arith}
 use Rattle.jobs.specs.Words.{job_of}
-use Rattle.house.proofs.Handing.{part_padded, length_rounded}
+use Rattle.house.proofs.Handing.{part_padded}
 use Rattle.house.proofs.Writable.{house_packs}
 use Rattle.house.proofs.Told.{cells_few}
 use Rattle.house.proofs.proposal.write_values.Goals as goal
-
-pub values_into-requires : goal.values_into-requires
-values_into-requires c = (c.requires, c.cells_of-n.ensures, omega (arith, c.cells_of-n.ensures, cells_few c.requires))
-
-pub slice_bounds-put_padded-end : goal.slice_bounds-put_padded-end
-slice_bounds-put_padded-end c = let len = length_rounded (job_of c.args.words.now) c.args.v.now c.cells_of-n.result c.values_into.ensures in
-    omega (arith, c.cells_of-n.ensures, cells_few c.requires, len)
 
 pub returns : goal.returns
 returns c = let j = job_of c.args.words.now in

@@ -12,9 +12,6 @@ use Rattle.measure.specs.Check.{verdict_for}
 use Rattle.linked.proofs.Words.{part_words, words_most, linked_given}
 use Rattle.linked.proofs.rounded.accepts.Goals as goal
 
-pub overflow_add-count : goal.overflow_add-count
-overflow_add-count c = omega (arith, words_most c.requires)
-
 pub check_first-verdict-requires : goal.check_first-verdict-requires
 check_first-verdict-requires c = let part = part_words (job_of c.args.words.now) c.args.v.now c.args.y.now c.requires.n_is c.requires.links_is (words_most c.requires) c.words_after-made.ensures in
     (omega (arith, words_most c.requires), rw part (linked_given c.requires.known (state c.args.v.now c.args.y.now)))

@@ -1,4 +1,4 @@
-use mathlib.Core.Path.{◌≡◌, sym, ap, ◌∙◌}
+use mathlib.Core.Path.{sym, ap, ◌∙◌}
 use Prim.Native.Nat.{◌+◌, ◌-◌}
 use native.Mathlib.Omega.{arith}
 use lib.Dec.{lit<}
@@ -8,56 +8,19 @@ use lib.Ieee.{nan}
 use Rattle.whole.proofs.Fits.{gives, small_fits}
 use Rattle.house.specs.Filled.{filled}
 use Rattle.house.proofs.Fills.{filled_more, filled_done}
-use Rattle.passes.proofs.Passing.{cells_most, links_most}
 use Rattle.linked.proofs.Words.{multiplier_small}
 use Rattle.linked.proofs.rounded.words_after.Invariants.{multipliers}
 use Rattle.linked.proofs.rounded.words_after.Goals as goal
-
-pub overflow_add-count : goal.overflow_add-count
-overflow_add-count c = omega (arith, cells_most c.requires, links_most c.requires)
-
-pub values_into-requires : goal.values_into-requires
-values_into-requires c = (c.requires.known, c.requires.n_is, omega (arith, cells_most c.requires))
-
-pub loop-at-init : goal.loop-at-init
-loop-at-init c = let a = c.args in
-    let e : a.n + a.links - a.n ≡ a.links = omega arith in
-    (omega arith, omega arith, rw e)
-
-pub overflow_sub-l : goal.overflow_sub-l
-overflow_sub-l c = omega arith
-
-pub offset_bounds-y-l : goal.offset_bounds-y-l
-offset_bounds-y-l c = omega (arith, cells_most c.requires, links_most c.requires)
-
-pub bounds-y-l : goal.bounds-y-l
-bounds-y-l c = omega (arith, cells_most c.requires, links_most c.requires)
-
-pub offset_bounds-made-at : goal.offset_bounds-made-at
-offset_bounds-made-at c = omega (arith, cells_most c.requires, links_most c.requires)
-
-pub bounds-made-at : goal.bounds-made-at
-bounds-made-at c = omega (arith, cells_most c.requires, links_most c.requires)
-
-pub overflow_add-at : goal.overflow_add-at
-overflow_add-at c = omega (arith, cells_most c.requires, links_most c.requires)
-
-pub loop-at-smaller : goal.loop-at-smaller
-loop-at-smaller c = omega arith
 
 pub loop-at-preserved : goal.loop-at-preserved
 loop-at-preserved c = let a = c.args in
     let y = a.y.now in
     let count = a.n + a.links in
     let at = c.loop-at.at in
-    let made = c.loop-at.made in (
-      omega arith,
-      omega arith,
-      ap (λ (x : ℤ). filled (multipliers y a.n) (count - (at + 1)) (at + 1) (set made at x)) (gives c.multiplier_word.ensures (small_fits (multipliers y a.n at) (multiplier_small (get_or y (at - a.n) nan)) (lit< tt)))
-          ∙ sym (filled_more (multipliers y a.n) at count made (omega arith)) ∙ c.loop-at.invariant.2,
-    )
+    let made = c.loop-at.made in ap (λ (x : ℤ). filled (multipliers y a.n) (count - (at + 1)) (at + 1) (set made at x)) (gives c.multiplier_word.ensures (small_fits (multipliers y a.n at) (multiplier_small (get_or y (at - a.n) nan)) (lit< tt)))
+          ∙ sym (filled_more (multipliers y a.n) at count made (omega arith)) ∙ c.loop-at.invariant
 
 pub returns : goal.returns
 returns c = let a = c.args in
-    sym (filled_done (multipliers a.y.now a.n) c.loop-at.at (a.n + a.links) c.loop-at.made (omega arith)) ∙ c.loop-at.invariant.2
+    sym (filled_done (multipliers a.y.now a.n) c.loop-at.at (a.n + a.links) c.loop-at.made (omega arith)) ∙ c.loop-at.invariant
     ∙ ap (filled (multipliers a.y.now a.n) a.links a.n) c.values_into.ensures

@@ -5,7 +5,7 @@ use lib.IntN.{ℤ}
 use lib.ListN.{get_or}
 use lib.Ieee.{Float, nan}
 use Rattle.linked.specs.Proposal.{multiplier_word}
-use Prim.Native.Nat.{ℕ, ◌-◌, ◌≤◌}
+use Prim.Native.Nat.{ℕ, ◌-◌}
 use Rattle.house.specs.Filled.{filled}
 use Rattle.linked.proofs.rounded.words_after.Given as goal
 
@@ -14,7 +14,4 @@ abbrev pub multipliers : List Float → (n : ℕ) → ℕ → ℤ
 multipliers y n i = multiplier_word (get_or y (i - n) nan)
 
 abbrev pub invariant-loop-at : goal.invariant-loop-at
-invariant-loop-at l = (l.n ≤ l.at) × (l.at ≤ l.count) × (filled (multipliers l.y l.n) (l.count - l.at) l.at l.made ≡ filled (multipliers l.y l.n) l.links l.n l.initial.made)
-
-abbrev pub decreases-loop-at : goal.decreases-loop-at
-decreases-loop-at l = l.count - l.at
+invariant-loop-at l = (filled (multipliers l.y l.n) (l.count - l.at) l.at l.made ≡ filled (multipliers l.y l.n) l.links l.n l.initial.made)

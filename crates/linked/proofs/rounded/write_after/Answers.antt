@@ -10,15 +10,6 @@ use Rattle.house.proofs.Packable.{proposed_packs}
 use Rattle.linked.proofs.Words.{part_words, words_most, linked_proposed}
 use Rattle.linked.proofs.rounded.write_after.Goals as goal
 
-pub overflow_add-count : goal.overflow_add-count
-overflow_add-count c = omega (arith, words_most c.requires)
-
-pub slice_bounds-put-count : goal.slice_bounds-put-count
-slice_bounds-put-count c = omega (arith, words_most c.requires)
-
-pub slice_bounds-put-end : goal.slice_bounds-put-end
-slice_bounds-put-end c = omega (arith, words_most c.requires)
-
 pub returns : goal.returns
 returns c = let j = job_of c.args.words.now in
     let st = state c.args.v.now c.args.y.now in

@@ -1,38 +1,23 @@
 use mathlib.Core.Path.{◌≡◌}
 use native.Mathlib.Omega.{arith}
 use Rattle.jobs.specs.Words.{job_of}
-use Rattle.measure.proofs.Lowest.{passed_start, passed_next}
-use Rattle.linked.proofs.Searching.{counted, pass_given, rejects, passed_is, rejects_is, found, found_state, none_found, none_state, one_more}
+use Rattle.measure.proofs.Lowest.{passed_next}
+use Rattle.linked.proofs.Searching.{rejects, passed_is, rejects_is, found, found_state, none_found, none_state, one_more}
 use Rattle.linked.proofs.search.search.Goals as goal
 
-pub loop-p-init : goal.loop-p-init
-loop-p-init c = (omega arith, c.requires.starts_there, passed_start (rejects (job_of c.args.words.now)))
-
-pub pass-requires : goal.pass-requires
-pass-requires c = pass_given c.requires
-
-pub accepts-done-requires : goal.accepts-done-requires
-accepts-done-requires c = counted c.requires
-
-pub returns-then-done : goal.returns-then-done
-returns-then-done c = let j = job_of c.args.words.now in
-    let e = passed_is c.requires c.loop-p.p c.loop-p.invariant.1 c.pass.ensures in
-    let q = rejects_is j c.loop-p.p e c.accepts-done.ensures c.if-done.true in
-    (found j c.args.given c.loop-p.p c.loop-p.invariant.2 c.loop-p-test.true q, found_state j c.args.given c.loop-p.p c.loop-p.invariant.2 c.loop-p-test.true q e)
-
-pub overflow_add-p : goal.overflow_add-p
-overflow_add-p c = omega arith
-
-pub loop-p-smaller : goal.loop-p-smaller
-loop-p-smaller c = omega arith
+pub returns-then-accepts : goal.returns-then-accepts
+returns-then-accepts c = let j = job_of c.args.words.now in
+    let e = passed_is c.requires c.loop-p.p c.loop-p.invariant.0 c.pass.ensures in
+    let q = rejects_is j c.loop-p.p e c.accepts.ensures c.if-accepts.true in
+    (found j c.args.given c.loop-p.p c.loop-p.invariant.1 c.loop-p-test.true q, found_state j c.args.given c.loop-p.p c.loop-p.invariant.1 c.loop-p-test.true q e)
 
 pub loop-p-preserved : goal.loop-p-preserved
 loop-p-preserved c = let j = job_of c.args.words.now in
-    let e = passed_is c.requires c.loop-p.p c.loop-p.invariant.1 c.pass.ensures in
-    let q = rejects_is j c.loop-p.p e c.accepts-done.ensures c.if-done.false in
-    (omega (arith, c.loop-p-test.true), one_more j c.loop-p.p e, passed_next (rejects j) c.loop-p.p c.loop-p.invariant.2 q)
+    let e = passed_is c.requires c.loop-p.p c.loop-p.invariant.0 c.pass.ensures in
+    let q = rejects_is j c.loop-p.p e c.accepts.ensures c.if-accepts.false in
+    (one_more j c.loop-p.p e, passed_next (rejects j) c.loop-p.p c.loop-p.invariant.1 q)
 
 pub returns : goal.returns
 returns c = let j = job_of c.args.words.now in
     let e : c.loop-p.p ≡ c.args.given = omega arith in
-    (none_found j c.args.given c.loop-p.p c.loop-p.invariant.2 e, none_state j c.args.given c.loop-p.p c.loop-p.invariant.2 e c.loop-p.invariant.1)
+    (none_found j c.args.given c.loop-p.p c.loop-p.invariant.1 e, none_state j c.args.given c.loop-p.p c.loop-p.invariant.1 e c.loop-p.invariant.0)

@@ -1,6 +1,5 @@
 -- After p passes none of them is accepted, and values and multipliers are those of the sequence.
 use mathlib.Core.Path.{◌≡◌}
-use Prim.Native.Nat.{◌-◌, ◌≤◌}
 use Rattle.jobs.specs.Words.{job_of}
 use Rattle.measure.proofs.Lowest.{Passed}
 use Rattle.passes.specs.Hildreth.{after_pass}
@@ -9,7 +8,4 @@ use Rattle.linked.proofs.Searching.{rejects}
 use Rattle.linked.proofs.search.search.Given as goal
 
 abbrev pub invariant-loop-p : goal.invariant-loop-p
-invariant-loop-p l = (l.p ≤ l.given) × (state l.v l.y ≡ after_pass (job_of l.words) l.p) × Passed (rejects (job_of l.words)) l.p
-
-abbrev pub decreases-loop-p : goal.decreases-loop-p
-decreases-loop-p l = l.given - l.p
+invariant-loop-p l = (state l.v l.y ≡ after_pass (job_of l.words) l.p) × Passed (rejects (job_of l.words)) l.p

@@ -1,11 +1,7 @@
 -- The cells passed lie in their boxes.
-use Prim.Native.Nat.{◌-◌, ◌≤◌}
 use Rattle.measure.proofs.Lowest.{Passed}
 use Rattle.measure.specs.OnWords.{in_box_on}
 use Rattle.measure.proofs.boxes.lowest_outside.Given as goal
 
 abbrev pub invariant-loop-i : goal.invariant-loop-i
-invariant-loop-i l = (l.i ≤ l.n) × Passed (in_box_on l.words l.values) l.i
-
-abbrev pub decreases-loop-i : goal.decreases-loop-i
-decreases-loop-i l = l.n - l.i
+invariant-loop-i l = Passed (in_box_on l.words l.values) l.i

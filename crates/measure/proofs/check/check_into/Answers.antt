@@ -1,21 +1,14 @@
 -- What was read of both packs is what the check goes by.
 use mathlib.Core.Path.{◌≡◌, sym, ◌∙◌}
 use lib.ListN.{length}
-use Rattle.measure.proofs.Packed.{job_room, parts_checked, parts_given, proposal_room, unread_refused}
+use Rattle.measure.proofs.Packed.{job_room, parts_checked, parts_given, proposal_room}
 use borrow.Author.Rules.{rules}
-use Rattle.measure.proofs.check.check_into.Reads as reads
-use Rattle.measure.proofs.check.check_into.Lts as lts
-use Rattle.measure.proofs.check.check_parts.Reads as check-parts-reads
-use Rattle.measure.proofs.opening.open_both.Reads as open-both-reads
 use Rattle.measure.proofs.check.check_into.Goals as goal
 
 pub check_parts-requires : goal.check_parts-requires
-check_parts-requires c = let w : length c.open_both-opened.new.words ≡ 2092 = search rules in let v : length c.open_both-opened.new.values ≡ 280 = search rules in
-    (job_room c.args.job.now c.args.proposal.now (sym c.open_both-opened.ensures.0 ∙ c.in-Both.is) w c.args.words.now c.open_both-opened.ensures.1 v c.args.values.now c.open_both-opened.ensures.2, proposal_room c.args.job.now c.args.proposal.now (sym c.open_both-opened.ensures.0 ∙ c.in-Both.is) w c.args.words.now c.open_both-opened.ensures.1 v c.args.values.now c.open_both-opened.ensures.2, parts_given c.args.job.now c.args.proposal.now (sym c.open_both-opened.ensures.0 ∙ c.in-Both.is) w c.args.words.now c.open_both-opened.ensures.1 v c.args.values.now c.open_both-opened.ensures.2)
+check_parts-requires c = let w : length c.open_both.new.words ≡ 2092 = search rules in let v : length c.open_both.new.values ≡ 280 = search rules in
+    (job_room c.args.job.now c.args.proposal.now (sym c.open_both.ensures.0 ∙ c.in_ok-counts.was) w c.args.words.now c.open_both.ensures.1 v c.args.values.now c.open_both.ensures.2, proposal_room c.args.job.now c.args.proposal.now (sym c.open_both.ensures.0 ∙ c.in_ok-counts.was) w c.args.words.now c.open_both.ensures.1 v c.args.values.now c.open_both.ensures.2, parts_given c.args.job.now c.args.proposal.now (sym c.open_both.ensures.0 ∙ c.in_ok-counts.was) w c.args.words.now c.open_both.ensures.1 v c.args.values.now c.open_both.ensures.2)
 
-pub returns-in-Both : goal.returns-in-Both
-returns-in-Both c = let w : length c.open_both-opened.new.words ≡ 2092 = search rules in let v : length c.open_both-opened.new.values ≡ 280 = search rules in
-    (parts_checked c.args.job.now c.args.proposal.now (sym c.open_both-opened.ensures.0 ∙ c.in-Both.is) w c.args.words.now c.open_both-opened.ensures.1 v c.args.values.now c.open_both-opened.ensures.2 c.check_parts.ensures, c.open_both-opened.ensures.1, c.open_both-opened.ensures.2)
-
-pub returns-in-Unread : goal.returns-in-Unread
-returns-in-Unread c = (unread_refused c.args.job.now c.args.proposal.now (sym c.open_both-opened.ensures.0 ∙ c.in-Unread.is), c.open_both-opened.ensures.1, c.open_both-opened.ensures.2)
+pub returns : goal.returns
+returns c = let w : length c.open_both.new.words ≡ 2092 = search rules in let v : length c.open_both.new.values ≡ 280 = search rules in
+    (parts_checked c.args.job.now c.args.proposal.now (sym c.open_both.ensures.0 ∙ c.in_ok-counts.was) w c.args.words.now c.open_both.ensures.1 v c.args.values.now c.open_both.ensures.2 c.check_parts.ensures, c.open_both.ensures.1, c.open_both.ensures.2)

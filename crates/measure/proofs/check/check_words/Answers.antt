@@ -1,20 +1,18 @@
-use mathlib.Core.Path.{sym, ◌∙◌}
+use mathlib.Core.Path.{◌≡◌, sym, ◌∙◌}
 use Rattle.measure.proofs.Verdicts.{meet_judging, met_judged, met_refused, walking}
-use Rattle.jobs.proofs.words.cells_of.Reads as cells-of-reads
-use Rattle.measure.proofs.check.check_words.Reads as reads
-use Rattle.measure.proofs.check.check_words.Lts as lts
-use Rattle.measure.proofs.check.judged.Reads as judged-reads
-use Rattle.measure.proofs.meeting.meet.Reads as meet-reads
+use borrow.Author.Rules.{rules}
+use Rattle.std.specs.Prelude.{Err}
 use Rattle.measure.proofs.check.check_words.Goals as goal
 
-pub meet-walked-requires : goal.meet-walked-requires
-meet-walked-requires c = walking c.requires c.cells_of-n.ensures
+pub meet-requires : goal.meet-requires
+meet-requires c = walking c.requires c.cells_of-n.ensures
 
 pub judged-requires : goal.judged-requires
-judged-requires c = meet_judging (walking c.requires c.cells_of-n.ensures) (sym c.meet-walked.ensures.0 ∙ c.in-Held.is) c.meet-walked.ensures.1
+judged-requires c = meet_judging (walking c.requires c.cells_of-n.ensures) (sym c.meet.ensures.0 ∙ c.in_ok-tally.was) c.meet.ensures.1
 
-pub returns-in-Unmet : goal.returns-in-Unmet
-returns-in-Unmet c = met_refused c.args.words.now c.args.proposal.now c.meet-walked.ensures.0 c.in-Unmet.is
+pub returns-in_err-tally : goal.returns-in_err-tally
+returns-in_err-tally c = let e : c.from_residual.result ≡ Err c.in_err-tally.field-0.0 = search rules in
+    e ∙ met_refused c.args.words.now c.args.proposal.now c.meet.ensures.0 c.in_err-tally.was
 
-pub returns-in-Held : goal.returns-in-Held
-returns-in-Held c = c.judged.ensures.0 ∙ met_judged c.args.words.now c.args.proposal.now c.meet-walked.ensures.0 c.in-Held.is
+pub returns : goal.returns
+returns c = c.judged.ensures.0 ∙ met_judged c.args.words.now c.args.proposal.now c.meet.ensures.0 c.in_ok-tally.was

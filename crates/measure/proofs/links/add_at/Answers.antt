@@ -2,11 +2,8 @@
 use mathlib.Core.Path.{ap}
 use lib.ListN.{set}
 use Rattle.whole.proofs.Fits.{fits_by, gives}
-use Rattle.measure.proofs.Scattered.{added_fits, added_is, added_product_fits, product_is}
+use Rattle.measure.proofs.Scattered.{added_fits, added_is}
 use Rattle.measure.proofs.links.add_at.Goals as goal
-
-pub overflow_mul-parts : goal.overflow_mul-parts
-overflow_mul-parts c = fits_by (product_is c.requires) (added_product_fits c.requires)
 
 pub overflow_add-parts : goal.overflow_add-parts
 overflow_add-parts c = fits_by (added_is c.requires) (added_fits c.requires)

@@ -1,14 +1,10 @@
 -- The total holds the terms passed.
 use mathlib.Core.Path.{◌≡◌}
-use Prim.Native.Nat.{◌*◌, ◌+◌, ◌-◌, ◌≤◌}
+use Prim.Native.Nat.{◌*◌, ◌+◌}
 use lib.IntN.{◌*ℤ◌}
-use Rattle.whole.proofs.Fits.{Holds}
 use Rattle.whole.specs.Sum.{sum}
 use Rattle.jobs.specs.Words.{count_at, word_at}
 use Rattle.measure.proofs.links.link_sum.Given as goal
 
 abbrev pub invariant-loop-m : goal.invariant-loop-m
-invariant-loop-m l = (l.m ≤ l.t) × (l.total ≡ sum l.m (λ m. word_at l.words (l.s + 2 + 2 * m) *ℤ word_at l.values (count_at l.words (l.s + 1 + 2 * m))))
-
-abbrev pub decreases-loop-m : goal.decreases-loop-m
-decreases-loop-m l = l.t - l.m
+invariant-loop-m l = (l.total ≡ sum l.m (λ m. word_at l.words (l.s + 2 + 2 * m) *ℤ word_at l.values (count_at l.words (l.s + 1 + 2 * m))))

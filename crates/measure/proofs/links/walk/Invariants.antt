@@ -1,13 +1,8 @@
 -- After l links that hold, the tally is that of their terms, the parts are theirs, and s is where the next one starts (`Along`).
 use mathlib.Core.Path.{◌≡◌}
-use Prim.Native.Nat.{◌-◌, ◌≤◌}
-use Rattle.whole.proofs.Fits.{Holds}
 use Rattle.jobs.specs.Words.{job_of}
 use Rattle.measure.proofs.Walks.{Along}
 use Rattle.measure.proofs.links.walk.Given as goal
 
 abbrev pub invariant-loop-l : goal.invariant-loop-l
-invariant-loop-l l = (l.l ≤ l.links) × ((l.tolerance ≡ (job_of l.words).tolerance) × Along l.words l.proposal l.initial.parts l.l l.s l.tally l.parts)
-
-abbrev pub decreases-loop-l : goal.decreases-loop-l
-decreases-loop-l l = l.links - l.l
+invariant-loop-l l = ((l.tolerance ≡ (job_of l.words).tolerance) × Along l.words l.proposal l.initial.parts l.l l.s l.tally l.parts)

@@ -3,9 +3,6 @@ use Rattle.whole.proofs.Fits.{fits_by, gives}
 use Rattle.measure.proofs.Directions.{loss_in_64, loss_is}
 use Rattle.measure.proofs.loss.loss.Goals as goal
 
-pub fit-part-requires : goal.fit-part-requires
-fit-part-requires c = (c.requires.given, c.requires.n_is)
-
 pub overflow_add-result : goal.overflow_add-result
 overflow_add-result c = fits_by (loss_is c.requires c.fit-part.ensures) (loss_in_64 c.requires.given)
 

@@ -1,8 +1,4 @@
 use Rattle.measure.proofs.Verdicts.{meet_added, meet_none, meet_outside, meet_walked}
-use Rattle.measure.proofs.meeting.meet.Reads as reads
-use Rattle.measure.proofs.meeting.meet.Lts as lts
-use Rattle.measure.proofs.boxes.lowest_outside.Reads as lowest-outside-reads
-use Rattle.measure.proofs.links.walk.Reads as walk-reads
 use Rattle.measure.proofs.meeting.meet.Goals as goal
 
 pub returns-then-cell-n : goal.returns-then-cell-n

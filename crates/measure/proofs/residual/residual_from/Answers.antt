@@ -1,13 +1,7 @@
 -- Each step by its bound; a residual is at most 6.92·10^12.
 use Rattle.whole.proofs.Fits.{fits_by, gives}
-use Rattle.measure.proofs.Residuals.{all_fits, all_is, far_fits, far_is, fit_fits, fit_is, ww_fits, ww_is}
+use Rattle.measure.proofs.Residuals.{all_fits, all_is, fit_fits, fit_is}
 use Rattle.measure.proofs.residual.residual_from.Goals as goal
-
-pub overflow_mul-result : goal.overflow_mul-result
-overflow_mul-result c = fits_by (ww_is c.requires) (ww_fits c.requires)
-
-pub overflow_sub-result : goal.overflow_sub-result
-overflow_sub-result c = fits_by (far_is c.requires) (far_fits c.requires)
 
 pub overflow_mul-result-2 : goal.overflow_mul-result-2
 overflow_mul-result-2 c = fits_by (fit_is c.requires) (fit_fits c.requires)

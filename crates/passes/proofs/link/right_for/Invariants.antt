@@ -1,12 +1,9 @@
 -- After the turns below m, what is left is the coefficients from m on.
 use mathlib.Core.Path.{◌≡◌}
-use Prim.Native.Nat.{◌-◌, ◌≤◌}
+use Prim.Native.Nat.{◌-◌}
 use Rattle.passes.specs.Hildreth.{placed_from}
 use Rattle.passes.specs.OnWords.{link_at}
 use Rattle.passes.proofs.link.right_for.Given as goal
 
 abbrev pub invariant-loop-m : goal.invariant-loop-m
-invariant-loop-m l = (l.m ≤ l.t) × (placed_from (link_at l.words l.s) (l.t - l.m) l.m l.made ≡ placed_from (link_at l.words l.s) l.t 0 l.initial.made)
-
-abbrev pub decreases-loop-m : goal.decreases-loop-m
-decreases-loop-m l = l.t - l.m
+invariant-loop-m l = placed_from (link_at l.words l.s) (l.t - l.m) l.m l.made ≡ placed_from (link_at l.words l.s) l.t 0 l.initial.made

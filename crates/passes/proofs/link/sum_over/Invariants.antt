@@ -1,12 +1,9 @@
 -- After the turns below m, what is left to add is the terms from m on.
 use mathlib.Core.Path.{◌≡◌}
-use Prim.Native.Nat.{◌-◌, ◌≤◌}
+use Prim.Native.Nat.{◌-◌}
 use Rattle.passes.specs.Hildreth.{plus_by, term_over}
 use Rattle.passes.specs.OnWords.{link_at}
 use Rattle.passes.proofs.link.sum_over.Given as goal
 
 abbrev pub invariant-loop-m : goal.invariant-loop-m
-invariant-loop-m l = (l.m ≤ l.t) × (plus_by (term_over (link_at l.words l.s) l.xs) l.m (l.t - l.m) l.total ≡ plus_by (term_over (link_at l.words l.s) l.xs) 0 l.t l.initial.total)
-
-abbrev pub decreases-loop-m : goal.decreases-loop-m
-decreases-loop-m l = l.t - l.m
+invariant-loop-m l = plus_by (term_over (link_at l.words l.s) l.xs) l.m (l.t - l.m) l.total ≡ plus_by (term_over (link_at l.words l.s) l.xs) 0 l.t l.initial.total

@@ -1,22 +1,14 @@
-use mathlib.Core.Path.{◌≡◌, refl, ap, ◌∙◌}
+use mathlib.Core.Path.{refl, ap, ◌∙◌}
 use mathlib.Core.List.{[], ◌∷◌}
-use Prim.Native.Nat.{◌-◌}
 use native.Mathlib.Omega.{arith}
 use lib.ListN.{length}
 use lib.Seq.{length-sets}
-use Rattle.whole.proofs.Solve.{at}
 use Rattle.measure.proofs.Totalled.{total_amount, total_cell, total_residual}
 use Rattle.terms.proofs.Listings.{cell_next, entries_none}
 use Rattle.terms.proofs.listing.list_cells.Goals as goal
 
 pub loop-i-init : goal.loop-i-init
-loop-i-init c = (omega arith, (refl, entries_none _ _ _ _))
-
-pub offset_bounds-parts-i : goal.offset_bounds-parts-i
-offset_bounds-parts-i c = omega (arith, c.requires.0.n_is, c.requires.0.given.allowed.cells_few)
-
-pub bounds-parts-i : goal.bounds-parts-i
-bounds-parts-i c = omega (arith, c.requires.0.room)
+loop-i-init c = (refl, entries_none _ _ _ _)
 
 pub residual_at-r-requires : goal.residual_at-r-requires
 residual_at-r-requires c = total_residual c.requires.0 _ (omega arith)
@@ -25,25 +17,10 @@ pub cell_term_at-t-requires : goal.cell_term_at-t-requires
 cell_term_at-t-requires c = total_cell c.requires.0 (omega arith) c.residual_at-r.ensures
 
 pub put_cell-requires : goal.put_cell-requires
-put_cell-requires c = (total_amount c.requires.0 (omega arith) c.residual_at-r.ensures c.cell_term_at-t.ensures, omega (arith, c.requires.1, c.loop-i.invariant.1.0))
-
-pub overflow_add-i : goal.overflow_add-i
-overflow_add-i c = omega arith
-
-pub loop-i-smaller : goal.loop-i-smaller
-loop-i-smaller c = omega arith
+put_cell-requires c = (total_amount c.requires.0 (omega arith) c.residual_at-r.ensures c.cell_term_at-t.ensures, omega (arith, c.requires.1, c.loop-i.invariant.0))
 
 pub loop-i-preserved : goal.loop-i-preserved
 loop-i-preserved c = (
-  omega arith,
-  (
-    ap length c.put_cell.ensures ∙ length-sets c.loop-i.out _ (_ ∷ _ ∷ _ ∷ []) ∙ c.loop-i.invariant.1.0,
-    cell_next c.requires.0 (omega arith) c.residual_at-r.ensures c.cell_term_at-t.ensures c.args.out.now c.loop-i.invariant.1.1 c.put_cell.ensures,
-  ),
+  ap length c.put_cell.ensures ∙ length-sets c.loop-i.out _ (_ ∷ _ ∷ _ ∷ []) ∙ c.loop-i.invariant.0,
+  cell_next c.requires.0 (omega arith) c.residual_at-r.ensures c.cell_term_at-t.ensures c.args.out.now c.loop-i.invariant.1 c.put_cell.ensures,
 )
-
-pub shape_of-out : goal.shape_of-out
-shape_of-out c = c.loop-i.invariant.1.0
-
-pub returns : goal.returns
-returns c = let e : c.loop-i.i ≡ c.args.n = omega arith in rw e at c.loop-i.invariant.1.1

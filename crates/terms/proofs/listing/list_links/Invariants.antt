@@ -1,13 +1,10 @@
 -- Behind the cells stand the words of the links passed, and s is where the next one starts.
 use mathlib.Core.Path.{◌≡◌}
-use Prim.Native.Nat.{◌+◌, ◌-◌, ◌≤◌}
+use Prim.Native.Nat.{◌+◌}
 use lib.ListN.{length}
 use Rattle.jobs.specs.Words.{start_of}
 use Rattle.terms.specs.Steps.{Longer}
 use Rattle.terms.proofs.listing.list_links.Given as goal
 
 abbrev pub invariant-loop-l : goal.invariant-loop-l
-invariant-loop-l l = (l.l ≤ l.count) × ((length l.out ≡ length l.initial.out) × ((l.s ≡ start_of l.words l.l) × Longer l.words l.proposal l.n (l.n + l.l) l.initial.out l.out))
-
-abbrev pub decreases-loop-l : goal.decreases-loop-l
-decreases-loop-l l = l.count - l.l
+invariant-loop-l l = ((length l.out ≡ length l.initial.out) × ((l.s ≡ start_of l.words l.l) × Longer l.words l.proposal l.n (l.n + l.l) l.initial.out l.out))

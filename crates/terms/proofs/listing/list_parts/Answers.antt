@@ -4,8 +4,5 @@ use Prim.Native.Nat.{◌-◌}
 use native.Mathlib.Omega.{arith}
 use Rattle.terms.proofs.listing.list_parts.Goals as goal
 
-pub list_table-requires : goal.list_table-requires
-list_table-requires c = let e : c.args.k - 0 ≡ c.args.k = omega arith in let q : c.args.m - 0 ≡ c.args.m = omega arith in rw (e, q) c.requires.2
-
 pub returns : goal.returns
 returns c = let e : c.args.k - 0 ≡ c.args.k = omega arith in let q : c.args.m - 0 ≡ c.args.m = omega arith in rw (e, q) at c.list_table.ensures

@@ -11,9 +11,9 @@ use Rattle.jobs.proofs.Readings.{read_jobs_allowed}
 use Rattle.measure.specs.Check.{Verdict, accepting, values_of, multipliers_of, verdict_for}
 use Rattle.std.specs.Prelude.{Option, Some, None}
 use Rattle.slots.specs.Slots.{head_size, values_end, lowest, has_job, at_slot}
-use Rattle.counts.specs.declared.Tested.{Tested}
-use Rattle.counts.specs.declared.Tested.TheVariants.{Passed, Err r}
-use Rattle.counts.specs.Counts.{societies, shelf_words, test_shelf, on_tested, row_in}
+use Rattle.std.specs.Prelude.{Ok, Err}
+use Rattle.counts.specs.Counts.{Tested, societies, shelf_words, test_shelf, on_tested, row_in}
+use Rattle.refusals.specs.Refusals.{number_of, place_of}
 use Rattle.counts.proofs.Tests.{refused_either}
 use Rattle.checked.specs.Answers.{Reply, refusal, done, answer_of}
 use Rattle.shelf.specs.Shelf.{forget_reply, Layout, layout_in, span_of, from_society, keep_reply, fetch_from, fetch_reply, forgot_reply}
@@ -22,7 +22,6 @@ use Rattle.shelf.specs.Fetched.{most_value, most_multiplier, lowest_above, or_si
 use Rattle.shelf.specs.Calls.{Own, Call, keep, fetch, forget, own, clear, laid_said, said}
 use Rattle.numbers.proofs.Both.{both}
 use Rattle.bench.proofs.Small.{Small, verdict_small, check_small}
-use Rattle.std.specs.Prelude.{Ok, Err}
 use Rattle.refusals.specs.declared.Refusal.TheVariants.{BadProposal}
 use Rattle.packs.specs.Reading.{Outcome}
 
@@ -114,8 +113,8 @@ tested_small row shelf r s = go (test_shelf row shelf) refl
     either number place (inr h) = refusal_small number place (omega (arith, h.0)) (omega (arith, h.1))
 
     go : (o : Tested) → test_shelf row shelf ≡ o → Small (on_tested o r refusal).answer
-    go Passed e = s
-    go (Barred number place) e = either number place (refused_either row shelf number place e)
+    go (Ok u) e = s
+    go (Err r) e = either (number_of r) (place_of r) (refused_either row shelf r e)
 
 pub said_small : (shelf : List ℕ) (call : Call) → Small (said shelf call).answer
 said_small shelf (own call) = tested_small (row_in shelf) shelf (laid_said (layout_in shelf) shelf call) (laid_small (layout_in shelf) shelf call)

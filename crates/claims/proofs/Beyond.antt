@@ -25,9 +25,7 @@ use Rattle.std.specs.Prelude.{Option, Some, None}
 use Rattle.slots.specs.Slots.{lowest, has_job, at_slot}
 use Rattle.checked.specs.Answers.{Reply, refusal, overwritten}
 use Rattle.shelf.specs.Fetched.{kept_verdict, handed as handedTo, same_counts, fetch_table, kept_cells, kept_links, kept_values, kept_multipliers, fetch_at, fetch_in, on_job}
-use Rattle.counts.specs.declared.Tested.{Tested}
-use Rattle.counts.specs.declared.Tested.TheVariants.{Passed, Err r}
-use Rattle.counts.specs.Counts.{test_shelf, on_tested, row_in}
+use Rattle.counts.specs.Counts.{Tested, test_shelf, on_tested, row_in}
 use Rattle.shelf.specs.Shelf.{Layout, layout_in, span_of, fetch_from, fetch_reply}
 use Rattle.shelf.specs.Calls.{own, fetch, laid_said, said}
 use Rattle.bench.specs.Calls.{outcome_of}
@@ -154,5 +152,5 @@ pub fetch_within : (shelf job : List ℕ) (room : ℕ) → Handed (said shelf (o
 fetch_within shelf job room = go (test_shelf (row_in shelf) shelf)
   where
     go : (o : Tested) → Handed (on_tested o (laid_said (layout_in shelf) shelf (fetch job room)) refusal)
-    go Passed = from_handed (layout_in shelf) job room shelf
-    go (Barred number place) = omega arith
+    go (Ok u) = from_handed (layout_in shelf) job room shelf
+    go (Err r) = omega arith

@@ -30,9 +30,8 @@ use Rattle.checked.specs.Answers.{Reply, refusal, done, answer_of}
 use Rattle.checked.specs.Checked.{checked_of}
 use Rattle.std.specs.Prelude.{Option, Some, None}
 use Rattle.slots.specs.Slots.{head_size, values_end, lowest, has_job, at_slot}
-use Rattle.counts.specs.declared.Tested.{Tested}
-use Rattle.counts.specs.declared.Tested.TheVariants.{Passed, Err r}
-use Rattle.counts.specs.Counts.{societies, shelf_words, test_shelf, on_tested, row_in}
+use Rattle.counts.specs.Counts.{Tested, societies, shelf_words, test_shelf, on_tested, row_in}
+use Rattle.refusals.specs.Refusals.{number_of, place_of}
 use Rattle.counts.proofs.Tests.{refused_either}
 use Rattle.shelf.specs.Shelf.{forget_reply, Layout, layout_in, span_of, from_society, keep_reply, fetch_from, fetch_reply, forgot_reply}
 use Rattle.shelf.specs.Fetched.{most_value, most_multiplier, lowest_above, or_six, proposal_of, kept_verdict, handed as handedTo, same_counts, fetch_table, kept_cells, kept_links, kept_values, kept_multipliers, fetch_at, fetch_in, on_job}
@@ -210,8 +209,8 @@ said_number others most row shelf r t u h = go (test_shelf row shelf) refl
     either number place (inr e) = subst (Among others most) (sym e.0) u
 
     go : (o : Tested) → test_shelf row shelf ≡ o → Among others most (on_tested o r refusal).answer.number
-    go Passed e = h
-    go (Barred number place) e = either number place (refused_either row shelf number place e)
+    go (Ok u) e = h
+    go (Err r) e = either (number_of r) (place_of r) (refused_either row shelf r e)
 
 pub keep_number : (job proposal shelf : List ℕ) → Among (13 ∷ 22 ∷ []) 9 (said shelf (own (keep job proposal))).answer.number
 unfolding keep_reply checked_of

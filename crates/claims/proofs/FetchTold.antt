@@ -23,9 +23,8 @@ use Rattle.std.specs.Prelude.{Option, Some, None}
 use Rattle.slots.specs.Slots.{head_size, values_end, slot_words, lowest, has_job, at_slot}
 use Rattle.checked.specs.Answers.{Reply, refusal, overwritten, answer_of}
 use Rattle.shelf.specs.Fetched.{most_value, most_multiplier, up_to, lowest_above, or_six, proposal_of, kept_verdict, handed, same_counts, fetch_table, kept_cells, kept_links, kept_values, kept_multipliers, fetch_at, fetch_in, on_job}
-use Rattle.counts.specs.declared.Tested.{Tested}
-use Rattle.counts.specs.declared.Tested.TheVariants.{Passed, Err r}
-use Rattle.counts.specs.Counts.{test_shelf, on_tested, row_in}
+use Rattle.std.specs.Prelude.{Ok, Err}
+use Rattle.counts.specs.Counts.{Tested, test_shelf, on_tested, row_in}
 use Rattle.counts.proofs.Tests.{passed_ready, refused_some}
 use Rattle.shelf.specs.Shelf.{Layout, layout_in, span_of, fetch_from, fetch_reply}
 use Rattle.shelf.specs.Calls.{fetch, own, said}
@@ -40,7 +39,6 @@ use Rattle.claims.specs.BenchPromises.{ToldBest, ToldFetched}
 use Rattle.claims.proofs.Accepted.{no_other_refusal}
 use Rattle.claims.proofs.Far.{close_same}
 use Rattle.claims.proofs.Told.{told, Handed, handed_told}
-use Rattle.std.specs.Prelude.{Ok, Err}
 use Rattle.refusals.specs.declared.Refusal.TheVariants.{BadProposal}
 
 -- ---- where the verdict on kept numbers has the number 0, every one of them is allowed
@@ -186,8 +184,8 @@ any_behind : (shelf job : List ℕ) (room : ℕ) → Behind job (said shelf (own
 any_behind shelf job room n = go (test_shelf (row_in shelf) shelf) refl n
   where
     go : (o : Tested) → test_shelf (row_in shelf) shelf ≡ o → Behind job (on_tested o (fetch_reply (layout_in shelf) job room shelf) refusal)
-    go Passed e m = let r = passed_ready shelf e in whole_behind (layout_in shelf) (rowed_lawful (row_in shelf) r.row) job room shelf r.long m
-    go (Barred number place) e m = absurd (refused_some (row_in shelf) shelf number place e m)
+    go (Ok u) e m = let r = passed_ready shelf e in whole_behind (layout_in shelf) (rowed_lawful (row_in shelf) r.row) job room shelf r.long m
+    go (Err r) e m = absurd (refused_some (row_in shelf) shelf r e m)
 
 -- ---- the words that C gets
 pub fetch_told : (shelf job out answered left : List ℕ) → (said shelf (own (fetch job (length out)))).answer.number ≡ 0

@@ -18,9 +18,8 @@ use Rattle.measure.specs.Check.{Verdict, on_read, proposal_verdict, check_of}
 use Rattle.checked.specs.Answers.{Reply, accepted}
 use Rattle.checked.specs.Checked.{Checked, checked_of, values_of}
 use Rattle.shelf.specs.Fetched.{handed, same_counts, on_job}
-use Rattle.counts.specs.declared.Row.{Row}
-use Rattle.counts.specs.declared.Row.TheVariants.{Right, Wrong}
-use Rattle.counts.specs.Counts.{count_in, test_row, on_row, row_in}
+use Rattle.std.specs.Prelude.{Ok, Err}
+use Rattle.counts.specs.Counts.{Tested, count_in, test_row, on_row, row_in}
 use Rattle.shelf.specs.Calls.{Own, Call, keep, fetch, forget, own, clear, said}
 use Rattle.numbers.proofs.Both.{both}
 use Rattle.checked.proofs.Sound.{accepted_read, values_count, multipliers_count}
@@ -72,9 +71,9 @@ module _ (P : (society : ℕ) → Table → Type 0) where
   each_after (own call) calls new k a = each_own (count_in k.row) call calls new k.lists a
   each_after (clear counts) calls new k a = go (test_row (row_in counts))
     where
-      go : (o : Row) → Each (on_row o (emptied counts) (λ place. k)).lists
-      go Right = λ s. tt
-      go (Wrong place) = a
+      go : (o : Tested) → Each (on_row o (emptied counts) (λ place. k)).lists
+      go (Ok u) = λ s. tt
+      go (Err r) = a
 
   each_all : (calls : List Call) → New calls → (k : Kept) → Each k.lists → Each (all_after k calls).lists
   each_all [] new k a = a

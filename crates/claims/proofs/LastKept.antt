@@ -16,9 +16,8 @@ use Rattle.measure.specs.Check.{Verdict, accepting, check_of}
 use Rattle.checked.specs.Answers.{Reply, refusal, accepted, answer_of}
 use Rattle.checked.specs.Checked.{Checked, checked_of, values_of, multipliers_of}
 use Rattle.shelf.specs.Fetched.{handed, on_job}
-use Rattle.counts.specs.declared.Row.{Row}
-use Rattle.counts.specs.declared.Row.TheVariants.{Right, Wrong}
-use Rattle.counts.specs.Counts.{count_in, test_row, on_row, row_in}
+use Rattle.std.specs.Prelude.{Ok, Err}
+use Rattle.counts.specs.Counts.{Tested, count_in, test_row, on_row, row_in}
 use Rattle.shelf.specs.Calls.{Own, Call, keep, fetch, forget, own, clear, after, said}
 use Rattle.claims.specs.Lists.{Table, table_from, is_of, holds, replaced, removed, youngest, kept, table_for, fetched, Lists, on_list, kept_lists, lists_after, Kept, emptied, kept_after}
 use Rattle.claims.specs.CountsPromises.{fours}
@@ -272,9 +271,9 @@ module _ (s j : ℕ) where
   last_step (own call) k last h = last_after_lem (count_in k.row) s j call k.lists last h
   last_step (clear counts) k last h = go (test_row (row_in counts))
     where
-      go : (o : Row) → Last j ((on_row o (emptied counts) (λ place. k)).lists s) last
-      go Right = record { distinct = tt; is = λ t f. none_some t f }
-      go (Wrong place) = h
+      go : (o : Tested) → Last j ((on_row o (emptied counts) (λ place. k)).lists s) last
+      go (Ok u) = record { distinct = tt; is = λ t f. none_some t f }
+      go (Err r) = h
 
   last_all : (calls : List Call) (k : Kept) (last : Option Table) → Last j (k.lists s) last → Last j ((all_after k calls).lists s) (last_from s j last calls)
   last_all [] k last h = h

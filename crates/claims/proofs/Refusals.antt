@@ -16,10 +16,9 @@ use Rattle.checked.specs.Answers.{Reply, refusal, done, accepted, answer_of}
 use Rattle.shelf.specs.Shelf.{forget_reply, Layout, size_of, slot_from, span_of, on_part, on_society, from_society, kept_on, kept_shelf, keep_reply, fetch_from, fetch_reply, forgot_shelf, forgot_reply}
 use Rattle.shelf.specs.Fetched.{kept_verdict, handed, same_counts, fetch_table, kept_cells, kept_links, kept_values, kept_multipliers, fetch_at, fetch_in, on_job}
 use Rattle.checked.specs.Checked.{Checked, checked_of}
-use Rattle.counts.specs.declared.Row.TheVariants.{Wrong}
-use Rattle.counts.specs.declared.Tested.{Tested}
-use Rattle.counts.specs.declared.Tested.TheVariants.{Passed, Refused as Barred}
-use Rattle.counts.specs.Counts.{shelf_words, test_row, test_shelf, on_tested, row_in, cleared}
+use Rattle.std.specs.Prelude.{Ok, Err}
+use Rattle.refusals.specs.declared.Refusal.TheVariants.{CountsNotAllowed}
+use Rattle.counts.specs.Counts.{Tested, shelf_words, test_row, test_shelf, on_tested, row_in, cleared}
 use Rattle.counts.proofs.Tests.{shelf_wrong}
 use Rattle.shelf.specs.Shelf.{layout_in}
 use Rattle.shelf.specs.Calls.{Own, Call, keep, fetch, forget, own, clear, laid_after, laid_said, after, said}
@@ -125,8 +124,8 @@ module _ (l : Layout) (xs : List ℕ) where
 -- ---- on any words, by the test of the shelf
 tested_nothing : (o : Tested) (r : Reply) (xs ys : List ℕ) → (Refused r → (ys ≡ xs) × GivesNothing r) → Refused (on_tested o r refusal)
     → (on_tested o ys (λ number place. xs) ≡ xs) × GivesNothing (on_tested o r refusal)
-tested_nothing Passed r xs ys k n = k n
-tested_nothing (Barred number place) r xs ys k n = (refl, (refl, refl, refl))
+tested_nothing (Ok u) r xs ys k n = k n
+tested_nothing (Err x) r xs ys k n = (refl, (refl, refl, refl))
 
 pub refused_of : (xs : List ℕ) (call : Call) → Refused (said xs call) → (after xs call ≡ xs) × GivesNothing (said xs call)
 refused_of xs (own call) n = tested_nothing (test_shelf (row_in xs) xs) (laid_said (layout_in xs) xs call) xs (laid_after (layout_in xs) xs call) (laid_nothing (layout_in xs) xs call) n
@@ -134,9 +133,9 @@ refused_of xs (clear counts) n = tested_nothing (test_shelf (row_in counts) xs) 
 
 -- a row that is wrong
 pub wrong_refused : (shelf : List ℕ) → length shelf ≡ shelf_words → (place : ℕ)
-    → (test_row (row_in shelf) ≡ Wrong place → (call : Own) → (said shelf (own call) ≡ refusal 22 place) × (after shelf (own call) ≡ shelf))
-    × ((counts : List ℕ) → test_row (row_in counts) ≡ Wrong place → (said shelf (clear counts) ≡ refusal 22 place) × (after shelf (clear counts) ≡ shelf))
+    → (test_row (row_in shelf) ≡ Err (CountsNotAllowed place) → (call : Own) → (said shelf (own call) ≡ refusal 22 place) × (after shelf (own call) ≡ shelf))
+    × ((counts : List ℕ) → test_row (row_in counts) ≡ Err (CountsNotAllowed place) → (said shelf (clear counts) ≡ refusal 22 place) × (after shelf (clear counts) ≡ shelf))
 wrong_refused shelf len place = (
-  λ e call. let t = shelf_wrong (row_in shelf) shelf len place e in (sym (said_refused shelf call 22 place t), sym (after_refused shelf call 22 place t)),
-  λ counts e. let t = clear_refused shelf counts 22 place (shelf_wrong (row_in counts) shelf len place e) in (sym t.0, sym t.1),
+  λ e call. let t = shelf_wrong (row_in shelf) shelf len (CountsNotAllowed place) e in (sym (said_refused shelf call (CountsNotAllowed place) t), sym (after_refused shelf call (CountsNotAllowed place) t)),
+  λ counts e. let t = clear_refused shelf counts (CountsNotAllowed place) (shelf_wrong (row_in counts) shelf len (CountsNotAllowed place) e) in (sym t.0, sym t.1),
 )

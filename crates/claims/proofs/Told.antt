@@ -20,9 +20,8 @@ use Rattle.measure.specs.Check.{Verdict, accepting, check_of}
 use Rattle.measure.proofs.Directions.{loss_at_most}
 use Rattle.checked.specs.Answers.{Reply, refusal, accepted, answer_of}
 use Rattle.checked.specs.Checked.{checked_of}
-use Rattle.counts.specs.declared.Tested.{Tested}
-use Rattle.counts.specs.declared.Tested.TheVariants.{Passed, Err r}
-use Rattle.counts.specs.Counts.{test_shelf, on_tested, row_in}
+use Rattle.std.specs.Prelude.{Ok, Err}
+use Rattle.counts.specs.Counts.{Tested, test_shelf, on_tested, row_in}
 use Rattle.counts.proofs.Tests.{refused_some}
 use Rattle.shelf.specs.Fetched.{handed}
 use Rattle.shelf.specs.Shelf.{layout_in, keep_reply}
@@ -36,7 +35,6 @@ use Rattle.claims.proofs.Accepted.{accepted_exactly, no_other_refusal}
 use Rattle.claims.proofs.Terms.{at_most, words_given, no_term_negative}
 use Rattle.claims.proofs.Best.{best}
 use Rattle.claims.proofs.Far.{accepted_close}
-use Rattle.std.specs.Prelude.{Ok, Err}
 
 natural : (z : ℤ) → pos 0 ≤ℤ z → z ≡ pos (nat_abs z)
 natural (pos n) h = refl
@@ -96,8 +94,8 @@ kept_told job proposal shelf answered n w = go (test_shelf (row_in shelf) shelf)
     by o = on_tested o (laid_said (layout_in shelf) shelf (keep job proposal)) refusal
 
     go : (o : Tested) → test_shelf (row_in shelf) shelf ≡ o → (by o).answer.number ≡ 0 → answered ≡ answer_words (by o).answer → ToldBest job proposal 0 answered
-    go Passed e m u = told_of job proposal answered (check_of job proposal) refl m u
-    go (Barred number place) e m u = absurd (refused_some (row_in shelf) shelf number place e m)
+    go (Ok t) e m u = told_of job proposal answered (check_of job proposal) refl m u
+    go (Err r) e m u = absurd (refused_some (row_in shelf) shelf r e m)
 
 -- ---- the values that a fetch hands out, by the check's verdict on a proposal
 pub record Handed (job proposal values : List ℕ) (r : Reply) : Type 0 where

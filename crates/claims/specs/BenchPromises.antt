@@ -9,8 +9,7 @@ use Rattle.tally.specs.Largest.{Largest}
 use Rattle.measure.specs.Gap.{link_term_of}
 use Rattle.measure.specs.Check.{accepting, check_of}
 use Rattle.imports.specs.declared.Given.{Given}
-use Rattle.counts.specs.declared.Row.TheVariants.{Right}
-use Rattle.counts.specs.Counts.{shelf_words, count_in, test_row, row_in, Ready}
+use Rattle.counts.specs.Counts.{passed, shelf_words, count_in, test_row, row_in, Ready}
 use Rattle.shelf.specs.Calls.{Call, own, keep, forget, clear}
 use Rattle.bench.specs.Answers.{has_four}
 use Rattle.bench.specs.Calls.{CheckSays, TermsSays, ProposeSays, ProposeLinkedSays, ReadSays, WriteSays, ImportSays, ExportSays, RatesSays, ShelfSays, FetchSays}
@@ -175,7 +174,7 @@ TermsHanded =
 -- number returned, the answer slice and the output, is what the lists say.
 abbrev pub EightListsSeen : Type 0
 EightListsSeen =
-    (shelf counts answer : List ℕ) → length shelf ≡ shelf_words → test_row (row_in counts) ≡ Right → has_four answer ≡ true → (mades : List Made) (seens : List Seen)
+    (shelf counts answer : List ℕ) → length shelf ≡ shelf_words → test_row (row_in counts) ≡ passed → has_four answer ≡ true → (mades : List Made) (seens : List Seen)
     → MakesAll (clears counts answer ∷ mades) shelf seens → seens ≡ lists_seen (emptied counts) (clears counts answer ∷ mades)
 
 -- From any words: what C sees of one society's calls is the same if every call that names another society is left out.

@@ -15,7 +15,7 @@ use Rattle.slots.proofs.Lowest.{first_word}
 use Rattle.slots.proofs.Sizes.{at_inj, no_slot, found_below}
 use Rattle.refusals.specs.declared.Refusal.{Refusal}
 use Rattle.refusals.specs.declared.Refusal.TheVariants.{NoRoom, CountsNotAllowed}
-use Rattle.refusals.specs.Refusals.{number_of}
+use Rattle.refusals.specs.Refusals.{number_of, place_of}
 use Rattle.counts.specs.Counts.{societies, most_slots, passed, all_slots, shelf_words, count_in, slots_of, is_wrong, lowest_wrong, Tested, test_row, test_length, and_then, test_shelf, row_in, start_in, Ready}
 use Rattle.counts.specs.Given.{Counts}
 use Rattle.counts.proofs.Below.{below_apart}
@@ -126,6 +126,10 @@ wrong_is row r e = go (lowest_wrong row) refl (leb (slots_of row) all_slots) e
     go None p true f = never r (sym f)
     go None p false f = let z : CountsNotAllowed societies ≡ r = cc in (societies, sym z, omega arith)
 
+-- with the number 22
+pub wrong_number : (row : List ℕ) (r : Refusal) → test_row row ≡ Err r → number_of r ≡ 22
+wrong_number row r e = ap number_of (wrong_is row r e).1
+
 -- ---- a row has eight counts
 some_inside : (i : ℕ) (xs : List ℕ) → 1 ≤ get_or xs i 0 → i < length xs
 some_inside i [] h = absurd (omega arith)
@@ -173,21 +177,21 @@ module _ (row shelf : List ℕ) where
       go false p o q f = never (NoRoom shelf_words) f
 
   -- one that does not is refused with 13, or with 22 at a society or at 8
-  pub refused_either : (r : Refusal) → test_shelf row shelf ≡ Err r → (r ≡ NoRoom shelf_words) ⊎ ((place : ℕ) × (r ≡ CountsNotAllowed place) × (place ≤ societies))
+  pub refused_either : (r : Refusal) → test_shelf row shelf ≡ Err r → ((number_of r ≡ 13) × (place_of r ≡ shelf_words)) ⊎ ((number_of r ≡ 22) × (place_of r ≤ societies))
   unfolding test_shelf
   refused_either r e = go (eqb (length shelf) shelf_words) e
     where
-      go : (b : Bool) → and_then (cond b passed (Err (NoRoom shelf_words))) (test_row row) ≡ Err r → (r ≡ NoRoom shelf_words) ⊎ ((place : ℕ) × (r ≡ CountsNotAllowed place) × (place ≤ societies))
-      go true f = inr (wrong_is row r f)
-      go false f = let z : NoRoom shelf_words ≡ r = cc in inl (sym z)
+      go : (b : Bool) → and_then (cond b passed (Err (NoRoom shelf_words))) (test_row row) ≡ Err r → ((number_of r ≡ 13) × (place_of r ≡ shelf_words)) ⊎ ((number_of r ≡ 22) × (place_of r ≤ societies))
+      go true f = let w = wrong_is row r f in inr (ap number_of w.1, omega (arith, ap place_of w.1, w.2))
+      go false f = let z : NoRoom shelf_words ≡ r = cc in inl (sym (ap number_of z), sym (ap place_of z))
 
 -- so its number is not 0
 pub refused_some : (row shelf : List ℕ) (r : Refusal) → test_shelf row shelf ≡ Err r → number_of r ≡ 0 → ⊥
 refused_some row shelf r e z = go (refused_either row shelf r e)
   where
-    go : (r ≡ NoRoom shelf_words) ⊎ ((place : ℕ) × (r ≡ CountsNotAllowed place) × (place ≤ societies)) → ⊥
-    go (inl h) = omega (arith, ap number_of h)
-    go (inr h) = omega (arith, ap number_of h.1)
+    go : ((number_of r ≡ 13) × (place_of r ≡ shelf_words)) ⊎ ((number_of r ≡ 22) × (place_of r ≤ societies)) → ⊥
+    go (inl h) = omega (arith, h.0)
+    go (inr h) = omega (arith, h.0)
 
 -- it goes by the row and by the shelf's length alone
 pub tested_alike : (row xs ys : List ℕ) → length xs ≡ length ys → test_shelf row xs ≡ test_shelf row ys

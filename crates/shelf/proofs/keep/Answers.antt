@@ -2,17 +2,17 @@
 use mathlib.Core.Path.{sym, ◌∙◌}
 use Rattle.counts.proofs.Tests.{passed_ready}
 use Rattle.shelf.specs.Calls.{keep}
-use Rattle.shelf.proofs.Answered.{passed, refused}
+use Rattle.shelf.proofs.Answered.{passed, barred}
 use Rattle.shelf.proofs.keep.Goals as goal
 
 pub keep_checked-requires : goal.keep_checked-requires
-keep_checked-requires c = passed_ready _ (sym c.test_shelf.ensures ∙ c.in-Passed.is)
+keep_checked-requires c = passed_ready _ (sym c.test_shelf.ensures ∙ c.in-Ok.is)
 
-pub returns-in-Passed : goal.returns-in-Passed
-returns-in-Passed c = let done = c.keep_checked in
+pub returns-in-Ok : goal.returns-in-Ok
+returns-in-Ok c = let done = c.keep_checked in
     let a = c.args in
-    let both = passed a.shelf.now (keep a.job.now a.proposal.now) done.result (sym c.test_shelf.ensures ∙ c.in-Passed.is) done.new.shelf done.ensures.answer done.ensures.shelf in record { answer = both.0; shelf = both.1 }
+    let both = passed a.shelf.now (keep a.job.now a.proposal.now) done.result (sym c.test_shelf.ensures ∙ c.in-Ok.is) done.new.shelf done.ensures.answer done.ensures.shelf in record { answer = both.0; shelf = both.1 }
 
-pub returns-in-Refused : goal.returns-in-Refused
-returns-in-Refused c = let a = c.args in
-    let both = refused a.shelf.now (keep a.job.now a.proposal.now) c.plain.result c.in-Refused.number c.in-Refused.place (sym c.test_shelf.ensures ∙ c.in-Refused.is) c.plain.ensures in record { answer = both.0; shelf = both.1 }
+pub returns-in-Err : goal.returns-in-Err
+returns-in-Err c = let a = c.args in
+    let both = barred a.shelf.now (keep a.job.now a.proposal.now) c.refused.result c.in-Err.r (sym c.test_shelf.ensures ∙ c.in-Err.is) c.refused.ensures in record { answer = both.0; shelf = both.1 }

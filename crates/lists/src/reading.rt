@@ -2,10 +2,10 @@
 ghost use Rattle.std.specs.Prelude.{◌≡◌, ◌+◌, ◌≤◌, length, set, drop};
 ghost use Rattle.decimals.specs.Whole.{largest};
 ghost use Rattle.lists.specs.Cut.{lines_of};
-ghost use Rattle.lists.specs.Lines.{most_lines, line_of, refused_at, listed_from, listed_of, ListRead};
+ghost use Rattle.lists.specs.Lines.{most_lines, line_of, refusal_at, refused_at, listed_from, listed_of, ListRead};
 
 use crate::cut::break_from;
-use crate::lines::{Entry, is_header, line_of, refusal_at};
+use crate::lines::{Entry, Fault, is_header, line_of};
 use refusals::Refusal;
 
 // Sets the word at k, where there is one.
@@ -15,6 +15,17 @@ fn store(kept: &mut [u32], k: usize, x: u64)
 {
     if k < kept.len() {
         kept[k] = x as u32;
+    }
+}
+
+// The refusal of a fault on that line.
+fn refusal_at(fault: Fault, line: usize) -> Refusal
+    ensures { result ≡ refusal_at fault line }
+{
+    match fault {
+        Fault::Malformed => Refusal::BadLine(line),
+        Fault::Sequence => Refusal::OutOfSequence(line),
+        Fault::Deaths => Refusal::DeathsAbove(line),
     }
 }
 

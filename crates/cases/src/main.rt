@@ -44,7 +44,8 @@ fn print_verdict(rt: &impl Print, job: &[u8], proposal: &[u8]) {
 }
 
 // Reads until the buffer is full or the input ends, and answers how many bytes it put at the buffer's start. A read that fails counts as the end.
-// `checker` has the same function: the libraries below both programs know nothing of input.
+// `checker` has the same function: the libraries below both programs know nothing of input. A read may give any count,
+// so the loop is no `for`.
 fn read_full<R: Read>(from: &mut R, buf: &mut [u8]) -> usize
     ensures { result ≤ length buf.new }
 {

@@ -8,7 +8,7 @@ use crate::cut::break_from;
 use crate::lines::{Entry, Fault, is_header, line_of};
 use refusals::Refusal;
 
-// Sets the word at k, where there is one.
+// Sets the word at k, where there is one. (By `get_mut` the goal speaks of values that a proof may not cite.)
 fn store(kept: &mut [u32], k: usize, x: u64)
     requires { x ≤ largest }
     ensures { kept.new ≡ set kept.old k x }
@@ -38,7 +38,8 @@ fn entry_at(claims: bool, k: usize, before: u64, line: &[u8]) -> Result<Entry, R
     line_of(claims, k, before, line).map_err(|fault| refusal_at(fault, place))
 }
 
-// The lines of data, from the offset `from` on. What stands before a fault is stored too: lend it room of your own.
+// The lines of data, from the offset `from` on. What stands before a fault is stored too: lend it room of your own. The
+// offset goes on by a whole line, so the loop is no `for`.
 fn read_lines(
     text: &[u8],
     claims: bool,

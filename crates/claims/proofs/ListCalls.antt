@@ -12,6 +12,7 @@ use lib.Seq.{sets}
 use Rattle.numbers.proofs.Clash.{clash}
 use Rattle.packs.specs.Writing.{Written}
 use Rattle.jobs.specs.Packs.{write_job}
+use Rattle.refusals.specs.Refusals.{number_of}
 use Rattle.lists.proofs.Near.{LineNumber}
 use Rattle.imports.specs.declared.Given.{Given}
 use Rattle.imports.specs.Imports.{words_of, import_of}

@@ -178,4 +178,4 @@ fetched_of counts shelf from calls job room n =
         let ts = held counts calls j.society in
         let g = fetched_gives (Came calls j.society) j room ts (came counts calls j.society) (λ z. omega (arith, m, z)) in
         subst (λ (x : Reply). IsAccepted calls job x) (sym g.is) (behind calls job room (k, e) g.table g.holds g.its_job (sym (ap (λ (x : Reply). x.answer.number) g.is) ∙ m))
-    go (Err r) e m = absurd (omega (arith, m, (no_other_refusal job [] number place (ap (λ (o : Outcome). on_read o (proposal_verdict (job_in job) [])) e)).0))
+    go (Err r) e m = absurd (omega (arith, m, (no_other_refusal job [] r (ap (λ (o : Outcome). on_read o (proposal_verdict (job_in job) [])) e)).0))

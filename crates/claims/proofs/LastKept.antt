@@ -325,7 +325,7 @@ module _ (counts shelf : List ℕ) (from : ClearedWith counts shelf) where
 accepted_given : (room : ℕ) (job : ℕ) (vs ms : List ℕ) (v : Verdict) → accepted v ≡ true → length vs ≤ room
     → handed room vs v ≡ given (record { job = job; loss = (answer_of v).loss; gap = (answer_of v).gap; values = vs; multipliers = ms })
 accepted_given room job vs ms (Ok f) y h =
-    ap {B = Reply} (λ (b : Bool). cond b (record { answer = record { number = 0; place = length vs; loss = nat_abs F; gap = nat_abs G }; values = vs }) (refusal 13 (length vs))) (le-leb (length vs) room h)
+    ap {B = Reply} (λ (b : Bool). cond b (record { answer = record { number = 0; place = length vs; loss = nat_abs f.loss; gap = nat_abs f.gap }; values = vs }) (refusal 13 (length vs))) (le-leb (length vs) room h)
 accepted_given room job vs ms (Err r) y h = clash y
 
 pub same_given : (job proposal : List ℕ) → accepted (check_of job proposal) ≡ true → (room : ℕ) → (job_in job).cells ≤ room

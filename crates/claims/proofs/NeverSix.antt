@@ -29,6 +29,9 @@ use Rattle.claims.proofs.AsChecked.{same_proposal, fetched_by_counts}
 use Rattle.claims.proofs.Fetched.{Came, came, fetched_gives}
 use Rattle.std.specs.Prelude.{Ok, Err}
 use Rattle.refusals.specs.declared.Refusal.TheVariants.{BadProposal}
+use Rattle.refusals.specs.declared.Refusal.{Refusal}
+use Rattle.refusals.specs.Refusals.{place_of}
+use Rattle.refusals.proofs.Most.{six}
 
 abbrev NotSix : Reply → Type 0
 NotSix r = r.answer.number ≡ 6 → ⊥
@@ -42,16 +45,16 @@ module _ (job : List ℕ) (reads : Reads (read_job job).outcome) (room : ℕ) (o
       let done = ap {B = Outcome} (λ (r : Ran). r.outcome) (same_proposal old proposal yes job reads ec el) ∙ (accepted_read old proposal yes).proposal_done.1 in
       clash (sym done ∙ refused)
     where
-      clash : {k number place : ℕ} → Ok k ≡ Err r → ⊥
+      clash : {k : ℕ} {r : Refusal} → ◌≡◌ {A = Outcome} (Ok k) (Err r) → ⊥
       clash c = let z : ◌≡◌ {A = ℕ} 0 1 = cc in omega (arith, z)
 
   verdict_not : (vs : List ℕ) (v : Verdict) → ((place : ℕ) → v ≡ Err (BadProposal place) → ⊥) → NotSix (handed room vs v)
   verdict_not vs (Ok f) h = go (leb (length vs) room)
     where
-      go : (b : Bool) → NotSix (cond b (record { answer = record { number = 0; place = length vs; loss = nat_abs F; gap = nat_abs G }; values = vs }) (refusal 13 (length vs)))
+      go : (b : Bool) → NotSix (cond b (record { answer = record { number = 0; place = length vs; loss = nat_abs f.loss; gap = nat_abs f.gap }; values = vs }) (refusal 13 (length vs)))
       go true n = omega (arith, n)
       go false n = omega (arith, n)
-  verdict_not vs (Err r) h = λ n. h place (ap (λ (k : ℕ). Err r) n)
+  verdict_not vs (Err r) h = λ n. h (place_of r) (ap {B = Verdict} Err (six r n))
 
   by_counts : (b : Bool) → same_counts (job_in job) (job_in old).cells (job_in old).links ≡ b
       → NotSix (if b then handed room (checked_of old proposal).values (check_of job proposal) else refusal 12 0)

@@ -1,4 +1,4 @@
--- No refusal has a number above 22, and only one has 14.
+-- No refusal has a number above 22, and only one has 6 or 14.
 use Prim.Native.Nat.{ℕ, ◌≤◌}
 use mathlib.Core.Path.{◌≡◌, refl}
 use native.Mathlib.Omega.{arith}
@@ -51,3 +51,26 @@ fourteen NoDivisor e = absurd (omega (arith, e))
 fourteen NotProposed e = absurd (omega (arith, e))
 fourteen PassesNotAllowed e = absurd (omega (arith, e))
 fourteen (CountsNotAllowed p) e = absurd (omega (arith, e))
+
+pub six : (r : Refusal) → number_of r ≡ 6 → r ≡ BadProposal (place_of r)
+six (Unreadable p) e = absurd (omega (arith, e))
+six (NotAllowed p) e = absurd (omega (arith, e))
+six (FloorAbove p) e = absurd (omega (arith, e))
+six TooFewWeights e = absurd (omega (arith, e))
+six (BadTerm p) e = absurd (omega (arith, e))
+six (BadProposal p) e = refl
+six (OutsideBox p) e = absurd (omega (arith, e))
+six (BrokenLink p) e = absurd (omega (arith, e))
+six (GapAbove p) e = absurd (omega (arith, e))
+six (TooThin p) e = absurd (omega (arith, e))
+six NoSociety e = absurd (omega (arith, e))
+six NothingKept e = absurd (omega (arith, e))
+six (NoRoom p) e = absurd (omega (arith, e))
+six (NotReached p) e = absurd (omega (arith, e))
+six (BadLine p) e = absurd (omega (arith, e))
+six (OutOfSequence p) e = absurd (omega (arith, e))
+six (DeathsAbove p) e = absurd (omega (arith, e))
+six NoDivisor e = absurd (omega (arith, e))
+six NotProposed e = absurd (omega (arith, e))
+six PassesNotAllowed e = absurd (omega (arith, e))
+six (CountsNotAllowed p) e = absurd (omega (arith, e))

@@ -1,7 +1,5 @@
 -- The same for the proposal that honours links.
 use Rattle.std.proofs.Common.{ℕ, List, subst, arith}
-use Rattle.packs.specs.declared.Outcome.{Outcome}
-use Rattle.packs.specs.declared.Outcome.TheVariants.{Done, Refused}
 use Rattle.packs.proofs.Near.{Near}
 use Rattle.jobs.proofs.Near.{job_read_near}
 use Rattle.linked.specs.Proposal.{Linked, linked_words, counting, written_after, linked_of}
@@ -9,10 +7,12 @@ use Rattle.linked.proofs.Cases.{linked_cases}
 use Rattle.bench.specs.Calls.{outcome_of, offer_of}
 use Rattle.bench.proofs.Small.{Small}
 use Rattle.bench.proofs.Outcomes.{proposal_small}
+use Rattle.std.specs.Prelude.{Ok, Err}
+use Rattle.packs.specs.Reading.{Outcome}
 
 counting_small : (passes : ℕ) (o : Outcome) → Small (outcome_of o) → Small (offer_of (counting passes o))
-counting_small passes (Done n) s = record { number = omega arith; place = s.place }
-counting_small passes (Refused number place) s = record { number = s.number; place = s.place }
+counting_small passes (Ok n) s = record { number = omega arith; place = s.place }
+counting_small passes (Err r) s = record { number = s.number; place = s.place }
 
 pub linked_small : (room passes : ℕ) (job : List ℕ) → Small (offer_of (linked_of room passes job).offer)
 linked_small room passes job =

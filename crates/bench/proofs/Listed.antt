@@ -1,6 +1,5 @@
 -- The same for comma lists.
 use Rattle.std.proofs.Common.{ℕ, ◌≤◌, Bool, true, false, List, length, inl, inr, arith}
-use Rattle.packs.specs.declared.Outcome.TheVariants.{Done, Refused}
 use Rattle.packs.specs.Writing.{Written}
 use Rattle.lists.proofs.Near.{LineNumber}
 use Rattle.imports.specs.declared.Given.{Given}
@@ -12,8 +11,9 @@ use Rattle.exports.proofs.Handed.{rates_cases}
 use Rattle.bench.specs.Calls.{outcome_of}
 use Rattle.bench.proofs.Small.{Small}
 use Rattle.bench.proofs.Outcomes.{in_room_small, write_small}
+use Rattle.std.specs.Prelude.{Ok, Err}
 
-line_small : (claims : Bool) (number place : ℕ) → LineNumber claims number → place ≤ 122 → Small (outcome_of (Refused number place))
+line_small : (claims : Bool) (number place : ℕ) → LineNumber claims number → place ≤ 122 → Small (outcome_of (Err r))
 line_small claims number place (inl e) h = record { number = omega (arith, e); place = omega arith }
 line_small claims number place (inr (inl e)) h = record { number = omega (arith, e); place = omega arith }
 line_small claims number place (inr (inr e)) h = record { number = omega (arith, e.0); place = omega arith }
@@ -26,7 +26,7 @@ import_small g room text =
 pub export_small : (room first : ℕ) (rates : List ℕ) → Small (outcome_of (export_of room first rates).outcome)
 export_small room first rates =
     export_cases (λ (w : Written). Small (outcome_of w.outcome)) room first rates (record { number = omega arith; place = omega arith })
-    (λ h. in_room_small room (export_text first rates) (Done (length (export_text first rates))) (record { number = omega arith; place = omega arith }))
+    (λ h. in_room_small room (export_text first rates) (Ok (length (export_text first rates))) (record { number = omega arith; place = omega arith }))
 
 pub rates_small : (room : ℕ) (text : List ℕ) → Small (outcome_of (rates_of room text).outcome)
 rates_small room text =

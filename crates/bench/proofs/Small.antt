@@ -3,9 +3,7 @@ use Rattle.std.proofs.Common.{◌≡◌, ℕ, ◌+◌, ◌%◌, ◌^◌, ◌≤�
 use lib.Signed.{le_z}
 use Rattle.std.specs.Prelude.{if◌then◌else◌}
 use Rattle.fields.specs.Table.{values_from}
-use Rattle.packs.specs.declared.Outcome.{Outcome}
-use Rattle.packs.specs.declared.Outcome.TheVariants.{Done, Refused as Refuses}
-use Rattle.packs.specs.Reading.{read_from}
+use Rattle.packs.specs.Reading.{Outcome, read_from}
 use Rattle.packs.proofs.Near.{Near}
 use Rattle.jobs.specs.Job.{Job}
 use Rattle.jobs.specs.Words.{job_of}
@@ -14,15 +12,15 @@ use Rattle.jobs.specs.Packs.{as_six, read_job, read_proposal}
 use Rattle.jobs.proofs.Readings.{read_jobs_allowed}
 use Rattle.jobs.proofs.Near.{job_read_near, proposal_read_near}
 use Rattle.tally.proofs.Largest.{largest_few}
-use Rattle.measure.specs.declared.check.Verdict.{Verdict}
-use Rattle.measure.specs.declared.check.Verdict.TheVariants.{Accepted, Refused}
 use Rattle.measure.specs.Loss.{loss_of}
 use Rattle.measure.specs.Gap.{gap_of}
 use Rattle.measure.specs.Largest.{term_at, largest_place}
-use Rattle.measure.specs.Check.{lowest_failing, in_box, holds, judged_of, verdict_of, values_of, multipliers_of, on_read, proposal_verdict, check_of}
+use Rattle.measure.specs.Check.{Verdict, accepting, lowest_failing, in_box, holds, judged_of, verdict_of, values_of, multipliers_of, on_read, proposal_verdict, check_of}
 use Rattle.checked.specs.declared.Answer.{Answer}
 use Rattle.checked.specs.Answers.{answer_of}
 use Rattle.bench.specs.Answers.{code_of}
+use Rattle.std.specs.Prelude.{Ok, Err}
+use Rattle.refusals.specs.declared.Refusal.TheVariants.{BrokenLink, GapAbove}
 
 pub record Small (a : Answer) : Type 0 where
   pub number : a.number ≤ 31
@@ -36,15 +34,15 @@ code_told s = omega (arith, s.number, s.place)
 judged_small : (j : Job) → Allowed j → (v y : ℕ → ℤ) → Small (answer_of (judged_of j v y))
 judged_small j A v y = go (le_z (gap_of j v y) j.tolerance)
   where
-    go : (t : Bool) → Small (answer_of (if t then Accepted (loss_of j v) (gap_of j v y) else Refused 9 (largest_place j v y)))
+    go : (t : Bool) → Small (answer_of (if t then accepting (loss_of j v) (gap_of j v y) else Err (GapAbove (largest_place j v y))))
     go true = record { number = omega arith; place = omega arith }
     go false = record { number = omega arith; place = omega (arith, largest_few (term_at j v y) (j.cells + j.links), A.cells_few, A.links_few) }
 
 -- a refusal whose place is among n, or what comes after it
-among_small : (number x n : ℕ) (later : Verdict) → number ≤ 31 → n ≤ 160 → Small (answer_of later) → Small (answer_of (if ltb x n then Refused number x else later))
+among_small : (number x n : ℕ) (later : Verdict) → number ≤ 31 → n ≤ 160 → Small (answer_of later) → Small (answer_of (if ltb x n then Err r else later))
 among_small number x n later h m l = go (ltb x n) refl
   where
-    go : (t : Bool) → ltb x n ≡ t → Small (answer_of (if t then Refused number x else later))
+    go : (t : Bool) → ltb x n ≡ t → Small (answer_of (if t then Err r else later))
     go true e = record { number = h; place = omega (arith, ltb-true x n e) }
     go false e = l
 
@@ -52,13 +50,13 @@ pub verdict_small : (j : Job) → Allowed j → (v y : ℕ → ℤ) → Small (a
 unfolding verdict_of
 verdict_small j A v y =
     among_small 7 (lowest_failing (in_box j v) j.cells) j.cells
-    (if ltb (lowest_failing (holds j v) j.links) j.links then Refused 8 (lowest_failing (holds j v) j.links) else judged_of j v y)
+    (if ltb (lowest_failing (holds j v) j.links) j.links then Err (BrokenLink (lowest_failing (holds j v) j.links)) else judged_of j v y)
     (omega arith) (omega (arith, A.cells_few))
     (among_small 8 (lowest_failing (holds j v) j.links) j.links (judged_of j v y) (omega arith) A.links_few (judged_small j A v y))
 
 six_small : (o : Outcome) (later : Verdict) → Near 2800 o → Small (answer_of later) → Small (answer_of (on_read (as_six o) later))
-six_small (Done k) later h l = l
-six_small (Refuses number place) later h l = record { number = omega arith; place = omega (arith, h.2) }
+six_small (Ok k) later h l = l
+six_small (Err r) later h l = record { number = omega arith; place = omega (arith, h.2) }
 
 proposal_small : (j : Job) → Allowed j → (proposal : List ℕ) → Small (answer_of (proposal_verdict j proposal))
 proposal_small j A proposal =
@@ -72,5 +70,5 @@ pub check_small : (job proposal : List ℕ) → Small (answer_of (check_of job p
 check_small job proposal = go (read_job job).outcome refl (job_read_near job)
   where
     go : (o : Outcome) → (read_job job).outcome ≡ o → Near 20920 o → Small (answer_of (on_read o (proposal_verdict (job_of (read_job job).words) proposal)))
-    go (Done k) e h = proposal_small (job_of (read_job job).words) (read_jobs_allowed job k e) proposal
-    go (Refuses number place) e h = record { number = omega (arith, h.1); place = h.2 }
+    go (Ok k) e h = proposal_small (job_of (read_job job).words) (read_jobs_allowed job k e) proposal
+    go (Err r) e h = record { number = omega (arith, h.1); place = h.2 }

@@ -1,23 +1,21 @@
 -- The thirteen calls over C: each call's answer, what it leaves in the slice that it writes to, and its claim, which its contract cites.
 use Rattle.std.specs.Prelude.{ℕ, List, [], length, ℤ}
 use Rattle.std.proofs.lemmas.List.Edits.{sets}
-use Rattle.packs.specs.declared.Outcome.{Outcome}
-use Rattle.packs.specs.declared.Outcome.TheVariants.{Done, Refused}
 use Rattle.packs.specs.Writing.{Written, roomed}
 use Rattle.jobs.specs.Packs.{read_job_into, write_job}
 use Rattle.measure.specs.Check.{check_of}
 use Rattle.terms.specs.Listing.{terms_of}
 use Rattle.house.specs.Proposal.{propose_of}
-use Rattle.linked.specs.declared.Offer.{Offer}
-use Rattle.linked.specs.declared.Offer.TheVariants.{Proposed, Refused as Refuses}
-use Rattle.linked.specs.Proposal.{linked_of}
+use Rattle.linked.specs.Proposal.{Offer, linked_of}
 use Rattle.imports.specs.declared.Given.{Given}
 use Rattle.imports.specs.Imports.{import_of}
 use Rattle.exports.specs.Exports.{export_of, rates_of}
 use Rattle.checked.specs.declared.Answer.{Answer}
-use Rattle.checked.specs.Answers.{refusal, overwritten, answer_of}
+use Rattle.checked.specs.Answers.{refusal, refused, overwritten, answer_of}
 use Rattle.shelf.specs.Calls.{Call, own, fetch, after, said}
 use Rattle.bench.specs.Answers.{Says}
+use Rattle.std.specs.Prelude.{Ok, Err}
+use Rattle.packs.specs.Reading.{Outcome}
 
 -- ---- a proposal checked, and one made
 
@@ -27,8 +25,8 @@ CheckSays job proposal answer returned answered = Says {A = ℕ} (answer_of (che
 
 -- "0: done: bytes of pack or text, or values, written to an output"
 abbrev pub outcome_of : Outcome → Answer
-outcome_of (Done n) = (refusal 0 n).answer
-outcome_of (Refused number place) = (refusal number place).answer
+outcome_of (Ok n) = (refusal 0 n).answer
+outcome_of (Err r) = (refused r).answer
 
 -- Bytes written, in front of the bytes that were lent.
 abbrev pub WriterSays : Written → (out answer : List ℕ) → (returned : ℕ) (answered left : List ℕ) → Type 0
@@ -39,8 +37,8 @@ ProposeSays job out answer = WriterSays (propose_of (length out) job) out answer
 
 -- W-207: "the count stands in F"
 abbrev pub offer_of : Offer → Answer
-offer_of (Proposed bytes passes) = record { number = 0; place = bytes; loss = passes; gap = 0 }
-offer_of (Refuses number place) = (refusal number place).answer
+offer_of (Ok o) = record { number = 0; place = o.bytes; loss = o.passes; gap = 0 }
+offer_of (Err r) = (refused r).answer
 
 abbrev pub ProposeLinkedSays : (job : List ℕ) (passes : ℕ) (out answer : List ℕ) → (returned : ℕ) (answered left : List ℕ) → Type 0
 ProposeLinkedSays job passes out answer =

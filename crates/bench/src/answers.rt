@@ -4,11 +4,11 @@ ghost use Rattle.checked.specs.Answers.{answer_of};
 ghost use Rattle.bench.specs.Answers.{code_of, answer_words};
 ghost use Rattle.bench.specs.Calls.{outcome_of, offer_of};
 
-use checked::{Answer, plain};
+use checked::{Answer, plain, refused};
 use linked::Offer;
 use measure::check::Verdict;
 use numbers::zigzag::size_of;
-use packs::Outcome;
+use refusals::Refusal;
 use std::num::wrapping_add_u64;
 
 // The words of an answer.
@@ -38,41 +38,37 @@ pub fn of_verdict(verdict: Verdict) -> Answer
     ensures { result ≡ answer_of verdict }
 {
     match verdict {
-        Verdict::Accepted { loss, gap } => {
-            let loss = size_of(loss);
-            let gap = size_of(gap);
-            Answer {
-                number: 0,
-                place: 0,
-                loss,
-                gap,
-            }
-        }
-        Verdict::Refused { number, place } => plain(number, place as u64),
+        Ok(figures) => Answer {
+            number: 0,
+            place: 0,
+            loss: size_of(figures.loss),
+            gap: size_of(figures.gap),
+        },
+        Err(r) => refused(r),
     }
 }
 
 // The answer for how reading or writing a pack ends.
-pub fn of_outcome(outcome: Outcome) -> Answer
+pub fn of_outcome(outcome: Result<usize, Refusal>) -> Answer
     ensures { result ≡ outcome_of outcome }
 {
     match outcome {
-        Outcome::Done(n) => plain(0, n as u64),
-        Outcome::Refused(number, place) => plain(number, place as u64),
+        Ok(n) => plain(0, n as u64),
+        Err(r) => refused(r),
     }
 }
 
 // The answer for a proposal that honours links: the count of passes stands in F.
-pub fn of_offer(offer: Offer) -> Answer
+pub fn of_offer(offer: Result<Offer, Refusal>) -> Answer
     ensures { result ≡ offer_of offer }
 {
     match offer {
-        Offer::Proposed { bytes, passes } => Answer {
+        Ok(made) => Answer {
             number: 0,
-            place: bytes as u64,
-            loss: passes,
+            place: made.bytes as u64,
+            loss: made.passes,
             gap: 0,
         },
-        Offer::Refused { number, place } => plain(number, place as u64),
+        Err(r) => refused(r),
     }
 }

@@ -1,10 +1,10 @@
 -- Document 01, "Numbers Mr Aldous reads": "Each call answers number, place, F, G", and what a call hands out beside them.
 use Rattle.std.specs.Prelude.{ℕ, Bool, true, false, List, [], ◌++◌, nat_abs, length, drop}
+use Rattle.checked.specs.declared.Answer.{Answer}
 use Rattle.std.specs.Prelude.{Ok, Err}
 use Rattle.refusals.specs.declared.Refusal.{Refusal}
 use Rattle.refusals.specs.Refusals.{number_of, place_of}
 use Rattle.measure.specs.Check.{Verdict}
-use Rattle.checked.specs.declared.Answer.{Answer}
 
 -- a call's answer, and the values that it hands out
 pub record Reply : Type 0 where
@@ -14,6 +14,7 @@ pub record Reply : Type 0 where
 abbrev pub refusal : ℕ → ℕ → Reply
 refusal number place = record { answer = record { number = number; place = place; loss = 0; gap = 0 }; values = [] }
 
+-- A refusal's number and place.
 abbrev pub refused : Refusal → Reply
 refused r = refusal (number_of r) (place_of r)
 
@@ -26,11 +27,11 @@ abbrev pub overwritten : List ℕ → List ℕ → List ℕ
 overwritten out values = values ++ drop (length values) out
 
 abbrev pub accepted : Verdict → Bool
-accepted (Ok figures) = true
+accepted (Ok f) = true
 accepted (Err r) = false
 
 -- Document 01's number, place, F and G for each verdict: "Check, keep and fetch give the table's F and G; they are 0 on refusal". A shelf is no
 -- output, so the place of a keep that is done is 0.
 abbrev pub answer_of : Verdict → Answer
-answer_of (Ok figures) = record { number = 0; place = 0; loss = nat_abs figures.loss; gap = nat_abs figures.gap }
+answer_of (Ok f) = record { number = 0; place = 0; loss = nat_abs f.loss; gap = nat_abs f.gap }
 answer_of (Err r) = (refused r).answer

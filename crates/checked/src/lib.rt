@@ -29,7 +29,7 @@ pub fn plain(number: u64, place: u64) -> Answer
     }
 }
 
-// The answer that tells a refusal.
+// A refusal's number and place.
 pub fn refused(r: Refusal) -> Answer
     ensures { result ≡ (refused r).answer }
 {

@@ -1,4 +1,4 @@
--- Accepted exactly, and what each refusal means: both packs read or one is refused with a number up to 6, and on two packs that read the
+-- accepting exactly, and what each refusal means: both packs read or one is refused with a number up to 6, and on two packs that read the
 -- verdict is that on the table.
 use Prim.Native.Nat.{ℕ, ◌+◌, ◌≤◌, ◌<◌}
 use mathlib.Core.Path.{◌≡◌, refl, sym, ap, ap₂, subst, ◌∙◌}
@@ -11,23 +11,21 @@ use lib.IntN.{ℤ}
 use lib.Signed.{◌≤ℤ◌}
 use Rattle.std.specs.Prelude.{cond}
 use Rattle.fields.specs.Table.{values_from}
-use Rattle.packs.specs.declared.Outcome.{Outcome}
-use Rattle.packs.specs.declared.Outcome.TheVariants.{Done, Refused as Refuses}
-use Rattle.packs.specs.Reading.{read_from}
+use Rattle.packs.specs.Reading.{Outcome, read_from}
 use Rattle.jobs.specs.Packs.{job_in, read_job, as_six}
 use Rattle.jobs.proofs.Readings.{read_jobs_allowed}
 use Rattle.tally.specs.Largest.{Largest}
 use Rattle.tally.proofs.Largest.{largest_some, largest_one}
-use Rattle.measure.specs.declared.check.Verdict.{Verdict}
-use Rattle.measure.specs.declared.check.Verdict.TheVariants.{Accepted, Refused}
 use Rattle.measure.specs.Largest.{largest_place}
-use Rattle.measure.specs.Check.{verdict_of, on_read, proposal_verdict, check_of}
+use Rattle.measure.specs.Check.{Verdict, accepting, verdict_of, on_read, proposal_verdict, check_of}
 use Rattle.claims.specs.Read.{proposal_in, values_in, multipliers_in, loss_in, gap_in, term_in, Reads, BothRead}
 use Rattle.claims.specs.Meets.{EveryInBox, EveryLinkHolds}
 use Rattle.claims.specs.Verdicts.{Acceptable, Outside, Broken, Above}
 use Rattle.claims.specs.Promises.{AcceptedExactly, JobRefusedExactly, ProposalRefusedExactly, OutsideExactly, BrokenExactly, AboveExactly, NoOtherRefusal}
 use Rattle.claims.proofs.Numbers.{OneToFive, refused_one_to_five}
 use Rattle.claims.proofs.Verdict.{verdict_outside, verdict_broken, verdict_above, verdict_accepted, Ruled, outside, broken, above, accepted, ruled}
+use Rattle.std.specs.Prelude.{Ok, Err}
+use Rattle.refusals.specs.declared.Refusal.TheVariants.{BadProposal, OutsideBox, BrokenLink, GapAbove}
 
 module _ (job proposal : List ℕ) where
   -- ---- from what is so to the verdict
@@ -37,7 +35,7 @@ module _ (job proposal : List ℕ) where
       → gap_in job proposal ≤ℤ (job_in job).tolerance → Acceptable job proposal (loss_in job proposal) (gap_in job proposal)
   acceptable B I H h = record { both_read = B; values_in_boxes = I; links_hold = H; gap_within = h; loss_is = refl; gap_is = refl }
 
-  job_refused : {number place : ℕ} → (read_job job).outcome ≡ Refuses number place → check_of job proposal ≡ Refused number place
+  job_refused : {number place : ℕ} → (read_job job).outcome ≡ Err r → check_of job proposal ≡ Err r
   job_refused e = ap (λ (o : Outcome). on_read o (proposal_verdict (job_in job) proposal)) e
 
   on_job_lem : Reads (read_job job).outcome → check_of job proposal ≡ proposal_verdict (job_in job) proposal
@@ -46,17 +44,17 @@ module _ (job proposal : List ℕ) where
   abbrev pub tabled : Verdict
   tabled = verdict_of (job_in job) (values_in job proposal) (multipliers_in job proposal)
 
-  proposal_refused : {number place : ℕ} → Reads (read_job job).outcome → (proposal_in job proposal).outcome ≡ Refuses number place
-      → check_of job proposal ≡ Refused number place
+  proposal_refused : {number place : ℕ} → Reads (read_job job).outcome → (proposal_in job proposal).outcome ≡ Err r
+      → check_of job proposal ≡ Err r
   proposal_refused r e = on_job_lem r ∙ ap (λ (o : Outcome). on_read o tabled) e
 
   pub on_both : BothRead job proposal → check_of job proposal ≡ tabled
   on_both B = on_job_lem B.job_reads ∙ ap (λ (o : Outcome). on_read o tabled) B.proposal_reads.1
 
-  is_outside : {place : ℕ} → Outside job proposal place → check_of job proposal ≡ Refused 7 place
+  is_outside : {place : ℕ} → Outside job proposal place → check_of job proposal ≡ Err (OutsideBox place)
   is_outside {place} o = on_both o.both_read ∙ verdict_outside (job_in job) _ _ place o.lowest_cell
 
-  is_broken : {place : ℕ} → Broken job proposal place → check_of job proposal ≡ Refused 8 place
+  is_broken : {place : ℕ} → Broken job proposal place → check_of job proposal ≡ Err (BrokenLink place)
   is_broken {place} o = on_both o.both_read ∙ verdict_broken (job_in job) _ _ o.values_in_boxes place o.lowest_link
 
   -- the place of the largest term, of a job with cells, and no other place is one
@@ -64,35 +62,35 @@ module _ (job proposal : List ℕ) where
       → Largest (term_in job proposal) ((job_in job).cells + (job_in job).links) (largest_place (job_in job) (values_in job proposal) (multipliers_in job proposal))
   largest_in h = largest_some (term_in job proposal) ((job_in job).cells + (job_in job).links) h
 
-  is_above : {place : ℕ} → Above job proposal place → check_of job proposal ≡ Refused 9 place
+  is_above : {place : ℕ} → Above job proposal place → check_of job proposal ≡ Err (GapAbove place)
   is_above o =
       on_both o.both_read ∙ verdict_above (job_in job) _ _ o.values_in_boxes o.links_hold o.gap_above
-      ∙ ap (Refused 9) (largest_one (largest_in (omega (arith, o.largest_term.among))) o.largest_term)
+      ∙ ap ((λ p. Err (GapAbove p))) (largest_one (largest_in (omega (arith, o.largest_term.among))) o.largest_term)
 
-  is_accepted : {F G : ℤ} → Acceptable job proposal F G → check_of job proposal ≡ Accepted F G
+  is_accepted : {F G : ℤ} → Acceptable job proposal F G → check_of job proposal ≡ accepting F G
   is_accepted o =
       on_both o.both_read ∙ verdict_accepted (job_in job) _ _ o.values_in_boxes o.links_hold o.gap_within
-      ∙ ap₂ Accepted (sym o.loss_is) (sym o.gap_is)
+      ∙ ap₂ accepting (sym o.loss_is) (sym o.gap_is)
 
   -- ---- from the verdict to what is so
 
   -- what a refusal says, by whether its number is at most 5, or is 6, 7, 8 or 9; and what any verdict says
   abbrev Refusal : (five six seven eight nine : Bool) (number place : ℕ) → Type 0
   Refusal five six seven eight nine number place =
-      cond five (OneToFive number × ((read_job job).outcome ≡ Refuses number place))
-      (cond six (Reads (read_job job).outcome × ((proposal_in job proposal).outcome ≡ Refuses number place))
+      cond five (OneToFive number × ((read_job job).outcome ≡ Err r))
+      (cond six (Reads (read_job job).outcome × ((proposal_in job proposal).outcome ≡ Err r))
       (cond seven (Outside job proposal place)
       (cond eight (Broken job proposal place)
       (cond nine (Above job proposal place) ⊥))))
 
   abbrev Says : Verdict → Type 0
-  Says (Accepted F G) = Acceptable job proposal F G
-  Says (Refused number place) = Refusal (leb number 5) (eqb number 6) (eqb number 7) (eqb number 8) (eqb number 9) number place
+  Says (Ok f) = Acceptable job proposal F G
+  Says (Err r) = Refusal (leb number 5) (eqb number 6) (eqb number 7) (eqb number 8) (eqb number 9) number place
 
   says_so : {o : Verdict} → check_of job proposal ≡ o → Says o → Says (check_of job proposal)
   says_so e h = subst Says (sym e) h
 
-  first_five : (number place : ℕ) → number ≤ 5 → Says (Refused number place) ≡ (OneToFive number × ((read_job job).outcome ≡ Refuses number place))
+  first_five : (number place : ℕ) → number ≤ 5 → Says (Err r) ≡ (OneToFive number × ((read_job job).outcome ≡ Err r))
   first_five number place h = rw (le-leb number 5 h)
 
   -- the check's own verdict says what is so
@@ -118,16 +116,16 @@ module _ (job proposal : List ℕ) where
   on_proposal r = go (read_from (values_from (job_in job).cells (job_in job).links) proposal).outcome refl
     where
       go : (o : Outcome) → (read_from (values_from (job_in job).cells (job_in job).links) proposal).outcome ≡ o → Says (check_of job proposal)
-      go (Done k) e = on_table record { job_reads = r; proposal_reads = (k, ap as_six e) }
-      go (Refuses number place) e =
-          let six : (proposal_in job proposal).outcome ≡ Refuses 6 place = ap as_six e in says_so (proposal_refused r six) (r, six)
+      go (Ok k) e = on_table record { job_reads = r; proposal_reads = (k, ap as_six e) }
+      go (Err r) e =
+          let six : (proposal_in job proposal).outcome ≡ Err (BadProposal place) = ap as_six e in says_so (proposal_refused r six) (r, six)
 
   says : Says (check_of job proposal)
   says = go (read_job job).outcome refl
     where
       go : (o : Outcome) → (read_job job).outcome ≡ o → Says (check_of job proposal)
-      go (Done k) e = on_proposal (k, e)
-      go (Refuses number place) e =
+      go (Ok k) e = on_proposal (k, e)
+      go (Err r) e =
           let h : OneToFive number = refused_one_to_five job number place e in
           says_so (job_refused e) (subst (λ (A : Type 0). A) (sym (first_five number place h.1)) (h, e))
 

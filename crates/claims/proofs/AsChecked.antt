@@ -11,13 +11,11 @@ use lib.IntN.{ℤ, pos, nat_abs}
 use lib.ListN.{length, take, drop, get_or, length-drop, take-append-drop}
 use lib.Seq.{take_all, get_or-drop}
 use Rattle.std.specs.Prelude.{if◌then◌else◌}
-use Rattle.packs.specs.declared.Outcome.{Outcome}
-use Rattle.packs.specs.Reading.{Ran}
+use Rattle.packs.specs.Reading.{Outcome, Ran}
 use Rattle.jobs.specs.Job.{Job}
 use Rattle.jobs.specs.Words.{word_at}
 use Rattle.jobs.specs.Packs.{job_in, read_job, read_proposal}
-use Rattle.measure.specs.declared.check.Verdict.{Verdict}
-use Rattle.measure.specs.Check.{on_read, proposal_verdict, check_of, verdict_for}
+use Rattle.measure.specs.Check.{Verdict, on_read, proposal_verdict, check_of, verdict_for}
 use Rattle.checked.specs.Answers.{Reply, refusal, accepted}
 use Rattle.checked.specs.Checked.{checked_of, values_of, multipliers_of}
 use Rattle.shelf.specs.Fetched.{most_value, most_multiplier, proposal_of, kept_verdict, handed, same_counts, fetch_table}

@@ -20,7 +20,7 @@ use Rattle.checked.specs.Answers.{answer_of}
 use Rattle.checked.specs.Checked.{checked_of}
 use Rattle.counts.proofs.Tests.{ready_passed}
 use Rattle.shelf.specs.Shelf.{keep_reply}
-use Rattle.shelf.specs.Calls.{own, keep, fetch, forget, clear, after, said}
+use Rattle.shelf.specs.Calls.{own, keep, fetch, forget, clear, said}
 use Rattle.bench.specs.Answers.{code_of, answer_words, has_four, returned_for, written_for, Says}
 use Rattle.bench.proofs.Small.{Small, check_small}
 use Rattle.bench.proofs.Linked.{linked_small}

@@ -11,8 +11,6 @@ use lib.IntN.{ℤ, nat_abs}
 use lib.Signed.{le_z}
 use lib.ListN.{length, drop}
 use Rattle.std.specs.Prelude.{if◌then◌else◌}
-use Rattle.packs.specs.declared.Outcome.{Outcome}
-use Rattle.packs.specs.declared.Outcome.TheVariants.{Done, Refused as Refuses}
 use Rattle.packs.specs.Writing.{Written, refused, in_room, roomed}
 use Rattle.packs.proofs.Near.{Near}
 use Rattle.jobs.specs.Job.{Job}
@@ -22,22 +20,18 @@ use Rattle.jobs.specs.Packs.{handed_out, read_job, read_job_into, write_job, wri
 use Rattle.jobs.proofs.Near.{job_read_near, job_written_near}
 use Rattle.jobs.proofs.Readings.{read_jobs_allowed}
 use Rattle.factor.specs.Factor.{Ending}
-use Rattle.measure.specs.declared.check.Verdict.{Verdict}
-use Rattle.measure.specs.declared.check.Verdict.TheVariants.{Accepted, Refused}
 use Rattle.measure.specs.Loss.{loss_of}
 use Rattle.measure.specs.Gap.{gap_of}
 use Rattle.measure.specs.Largest.{largest_place}
-use Rattle.measure.specs.Check.{lowest_failing, in_box, holds as kept, verdict_of, values_of, multipliers_of, check_of, verdict_for}
+use Rattle.measure.specs.Check.{Verdict, accepting, lowest_failing, in_box, holds as kept, verdict_of, values_of, multipliers_of, check_of, verdict_for}
 use Rattle.house.specs.Proposal.{words_of, on_ending, solved_of, proposed_of, on_job_read, propose_of}
 use Rattle.house.proofs.Writable.{house_writes}
 use Rattle.checked.specs.Answers.{Reply, refusal, done, answer_of}
 use Rattle.checked.specs.Checked.{checked_of}
-use Rattle.slots.specs.declared.Slot.{Slot}
-use Rattle.slots.specs.declared.Slot.TheVariants.{At, Nowhere}
+use Rattle.std.specs.Prelude.{Option, Some, None}
 use Rattle.slots.specs.Slots.{head_size, values_end, lowest, has_job, at_slot}
-use Rattle.counts.specs.declared.Tested.{Tested}
-use Rattle.counts.specs.declared.Tested.TheVariants.{Passed, Refused as Barred}
-use Rattle.counts.specs.Counts.{societies, shelf_words, test_shelf, on_tested, row_in}
+use Rattle.counts.specs.Counts.{Tested, societies, shelf_words, test_shelf, on_tested, row_in}
+use Rattle.refusals.specs.Refusals.{number_of, place_of}
 use Rattle.counts.proofs.Tests.{refused_either}
 use Rattle.shelf.specs.Shelf.{forget_reply, Layout, layout_in, span_of, from_society, keep_reply, fetch_from, fetch_reply, forgot_reply}
 use Rattle.shelf.specs.Fetched.{most_value, most_multiplier, lowest_above, or_six, proposal_of, kept_verdict, handed as handedTo, same_counts, fetch_table, kept_cells, kept_links, kept_values, kept_multipliers, fetch_at, fetch_in, on_job}
@@ -46,6 +40,9 @@ use Rattle.bench.specs.Calls.{outcome_of}
 use Rattle.claims.specs.BenchPromises.{Among}
 use Rattle.claims.proofs.Unwritten.{handed}
 use Rattle.claims.proofs.Accepted.{no_other_refusal}
+use Rattle.refusals.specs.declared.Refusal.TheVariants.{BadProposal, OutsideBox, BrokenLink, GapAbove}
+use Rattle.packs.specs.Reading.{Outcome}
+use Rattle.refusals.specs.declared.Refusal.TheVariants.{NoRoom, NotProposed}
 
 -- ---- the check
 
@@ -53,24 +50,24 @@ pub check_number : (job proposal : List ℕ) → Among (13 ∷ []) 9 (answer_of 
 check_number job proposal = go (check_of job proposal) refl
   where
     go : (v : Verdict) → check_of job proposal ≡ v → Among (13 ∷ []) 9 (answer_of v).number
-    go (Accepted F G) e = inr (omega arith)
-    go (Refused number place) e = inr (no_other_refusal job proposal number place e).1
+    go (Ok f) e = inr (omega arith)
+    go (Err r) e = inr (no_other_refusal job proposal number place e).1
 
 -- ---- packs
 
 -- done is 0, or 13 where there is no room; a refusal stays as it is
 pub room_number : (others : List ℕ) (most room : ℕ) (bytes : List ℕ) (o : Outcome) → Among others most 13 → Among others most (outcome_of o).number
     → Among others most (outcome_of (in_room room bytes o).outcome).number
-room_number others most room bytes (Refuses number place) t h = h
-room_number others most room bytes (Done n) t h = go (ltb room n)
+room_number others most room bytes (Err r) t h = h
+room_number others most room bytes (Ok n) t h = go (ltb room n)
   where
-    go : (b : Bool) → Among others most (outcome_of (if b then refused 13 n else record { bytes = bytes; outcome = Done n }).outcome).number
+    go : (b : Bool) → Among others most (outcome_of (if b then refused (NoRoom n) else record { bytes = bytes; outcome = Ok n }).outcome).number
     go true = t
     go false = h
 
 near_number : (o : Outcome) → Near 20920 o → Among (13 ∷ []) 5 (outcome_of o).number
-near_number (Done n) h = inr (omega arith)
-near_number (Refuses number place) h = inr h.1
+near_number (Ok n) h = inr (omega arith)
+near_number (Err r) h = inr h.1
 
 pub write_number : (room : ℕ) (words : List ℤ) → Among (13 ∷ []) 5 (outcome_of (roomed room (write_job words)).outcome).number
 write_number room words =
@@ -78,8 +75,8 @@ write_number room words =
 
 handed_number : (room : ℕ) (words : List ℤ) (o : Outcome) → Among (13 ∷ []) 5 (outcome_of o).number
     → Among (13 ∷ []) 5 (outcome_of (handed_out room words o).outcome).number
-handed_number room words (Refuses number place) h = h
-handed_number room words (Done n) h = go (ltb room n)
+handed_number room words (Err r) h = h
+handed_number room words (Ok n) h = go (ltb room n)
   where
     go : (b : Bool) → Among (13 ∷ []) 5 (outcome_of (handed n words b).outcome).number
     go true = inl refl
@@ -93,14 +90,14 @@ read_number room job = handed_number room (read_job job).words (read_job job).ou
 abbrev HouseNumber : Written → Type 0
 HouseNumber w = Among (10 ∷ 13 ∷ 20 ∷ []) 5 (outcome_of w.outcome).number
 
-done_number : (room : ℕ) (w : Written) (n : ℕ) → w.outcome ≡ Done n → HouseNumber (roomed room w)
+done_number : (room : ℕ) (w : Written) (n : ℕ) → w.outcome ≡ Ok n → HouseNumber (roomed room w)
 done_number room w n e = room_number (10 ∷ 13 ∷ 20 ∷ []) 5 room w.bytes w.outcome (inr (inl refl)) (rw e (inr (inr (inr (omega arith)))))
 
 proposed_number : (room : ℕ) (j : Job) → Allowed j → HouseNumber (proposed_of room j)
 unfolding proposed_of
 proposed_number room j A = wide (ltb 12 j.columns) (go (solved_of j).ending)
   where
-    wide : (b : Bool) → HouseNumber (on_ending room j (solved_of j).values (solved_of j).ending) → HouseNumber (if b then refused 20 0 else on_ending room j (solved_of j).values (solved_of j).ending)
+    wide : (b : Bool) → HouseNumber (on_ending room j (solved_of j).values (solved_of j).ending) → HouseNumber (if b then refused NotProposed else on_ending room j (solved_of j).values (solved_of j).ending)
     wide true h = inr (inr (inl refl))
     wide false h = h
 
@@ -112,8 +109,8 @@ pub propose_number : (room : ℕ) (job : List ℕ) → HouseNumber (propose_of r
 propose_number room job = go (read_job job).outcome refl (job_read_near job)
   where
     go : (o : Outcome) → (read_job job).outcome ≡ o → Near 20920 o → HouseNumber (on_job_read room (read_job job).words o)
-    go (Done k) e h = proposed_number room (job_of (read_job job).words) (read_jobs_allowed job k e)
-    go (Refuses number place) e h = inr (inr (inr h.1))
+    go (Ok k) e h = proposed_number room (job_of (read_job job).words) (read_jobs_allowed job k e)
+    go (Err r) e h = inr (inr (inr h.1))
 
 -- ---- the shelf
 
@@ -132,7 +129,7 @@ Nine v = (answer_of v).number ≤ 9
 six_number : (first most : ℕ) (numbers : List ℕ) (later : Verdict) → Nine later → Nine (or_six first most numbers later)
 six_number first most numbers later h = go (ltb (lowest_above most numbers) (length numbers))
   where
-    go : (b : Bool) → Nine (if b then Refused 6 (first + lowest_above most numbers) else later)
+    go : (b : Bool) → Nine (if b then Err (BadProposal (first + lowest_above most numbers)) else later)
     go true = omega arith
     go false = h
 
@@ -141,7 +138,7 @@ unfolding verdict_of
 verdict_number j v y = go (ltb (lowest_failing (in_box j v) j.cells) j.cells) (ltb (lowest_failing (kept j v) j.links) j.links) (le_z (gap_of j v y) j.tolerance)
   where
     go : (a b c : Bool)
-        → Nine (if a then Refused 7 (lowest_failing (in_box j v) j.cells) else (if b then Refused 8 (lowest_failing (kept j v) j.links) else (if c then Accepted (loss_of j v) (gap_of j v y) else Refused 9 (largest_place j v y))))
+        → Nine (if a then Err (OutsideBox (lowest_failing (in_box j v) j.cells)) else (if b then Err (BrokenLink (lowest_failing (kept j v) j.links)) else (if c then accepting (loss_of j v) (gap_of j v y) else Err (GapAbove (largest_place j v y)))))
     go true b c = omega arith
     go false true c = omega arith
     go false false true = omega arith
@@ -155,8 +152,8 @@ kept_number j v y =
     (six_number values_end most_multiplier y last (verdict_number j (values_of (proposal_of v y)) (multipliers_of j.cells (proposal_of v y))))
 
 handed_out_number : (room : ℕ) (v : List ℕ) (w : Verdict) → Nine w → Presented (handedTo room v w)
-handed_out_number room v (Refused number place) h = inr (inr (inr h))
-handed_out_number room v (Accepted F G) h = go (leb (length v) room)
+handed_out_number room v (Err r) h = inr (inr (inr h))
+handed_out_number room v (Ok f) h = go (leb (length v) room)
   where
     go : (b : Bool) → Presented (cond b (record { answer = record { number = 0; place = length v; loss = nat_abs F; gap = nat_abs G }; values = v }) (refusal 13 (length v)))
     go true = inr (inr (inr (omega arith)))
@@ -174,25 +171,25 @@ fetch_in_number : (w c : ℕ) (j : Job) (room : ℕ) (s : List ℕ) → Presente
 unfolding fetch_in fetch_at
 fetch_in_number w c j room s = go (lowest (has_job j.number) w c s)
   where
-    go : (o : Slot) → Presented (at_slot o (λ p. fetch_at j room (drop (w * p) s)) (refusal 12 0))
-    go (At p) = let x = drop (w * p) s in table_number j room (kept_cells x) (kept_links x) (kept_values x) (kept_multipliers x)
-    go Nowhere = inl refl
+    go : (o : Option ℕ) → Presented (at_slot o (λ p. fetch_at j room (drop (w * p) s)) (refusal 12 0))
+    go (Some p) = let x = drop (w * p) s in table_number j room (kept_cells x) (kept_links x) (kept_values x) (kept_multipliers x)
+    go None = inl refl
 
 fetch_from_number : (l : Layout) (job : List ℕ) (room : ℕ) (shelf : List ℕ) → Presented (fetch_reply l job room shelf)
 unfolding fetch_reply
 fetch_from_number l job room shelf = go (read_job job).outcome (job_read_near job)
   where
     go : (o : Outcome) → Near 20920 o → Presented (on_job o (fetch_from l (job_of (read_job job).words) room shelf))
-    go (Done k) h = fetch_in_number l.words (l.count (job_of (read_job job).words).society) (job_of (read_job job).words) room (span_of l (job_of (read_job job).words).society shelf)
-    go (Refuses number place) h = inr (inr (inr (omega (arith, h.1))))
+    go (Ok k) h = fetch_in_number l.words (l.count (job_of (read_job job).words).society) (job_of (read_job job).words) room (span_of l (job_of (read_job job).words).society shelf)
+    go (Err r) h = inr (inr (inr (omega (arith, h.1))))
 
 forget_in_number : (w c job : ℕ) (s : List ℕ) → Held (forget_reply w c job s)
 unfolding forget_reply
 forget_in_number w c job s = go (lowest (has_job job) w c s)
   where
-    go : (o : Slot) → Held (at_slot o (λ p. done) (refusal 12 0))
-    go (At p) = held_done
-    go Nowhere = inr (inl refl)
+    go : (o : Option ℕ) → Held (at_slot o (λ p. done) (refusal 12 0))
+    go (Some p) = held_done
+    go None = inr (inl refl)
 
 society_number : (l : Layout) (society : ℕ) (f : List ℕ → Reply) (shelf : List ℕ) → ((x : List ℕ) → Held (f x)) → Held (from_society l society f shelf)
 unfolding from_society
@@ -212,8 +209,8 @@ said_number others most row shelf r t u h = go (test_shelf row shelf) refl
     either number place (inr e) = subst (Among others most) (sym e.0) u
 
     go : (o : Tested) → test_shelf row shelf ≡ o → Among others most (on_tested o r refusal).answer.number
-    go Passed e = h
-    go (Barred number place) e = either number place (refused_either row shelf number place e)
+    go (Ok u) e = h
+    go (Err r) e = either (number_of r) (place_of r) (refused_either row shelf r e)
 
 pub keep_number : (job proposal shelf : List ℕ) → Among (13 ∷ 22 ∷ []) 9 (said shelf (own (keep job proposal))).answer.number
 unfolding keep_reply checked_of

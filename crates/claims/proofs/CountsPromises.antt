@@ -1,18 +1,17 @@
 -- The promises of the counts, each a law whose type is its statement in specs/CountsPromises.antt.
 use Prim.Native.Nat.{ℕ, zero, suc, ◌+◌, ◌*◌, ◌≤◌}
 use mathlib.Core.Path.{◌≡◌, refl, sym, ap, ◌∙◌}
-use mathlib.Core.Bool.{Bool, true, false, cond}
+use mathlib.Core.Bool.{Bool, true, false}
 use mathlib.Core.List.{List}
 use native.Mathlib.Omega.{arith}
-use lib.Dec.{leb, ltb}
-use borrow.Author.Tests.{leb-false, ltb-true, ltb-false}
-use Rattle.slots.specs.declared.Slot.{Slot}
-use Rattle.slots.specs.declared.Slot.TheVariants.{At, Nowhere}
-use Rattle.slots.specs.Slots.{lowest, at_slot}
-use Rattle.counts.specs.declared.Row.{Row}
-use Rattle.counts.specs.declared.Row.TheVariants.{Right, Wrong}
-use Rattle.counts.specs.Counts.{societies, all_slots, count_in, slots_below, slots_of, is_wrong, lowest_wrong, test_row, start_in}
-use Rattle.counts.proofs.Tests.{each_right, lowest_wrong_is, right_allotted}
+use lib.Dec.{ltb}
+use borrow.Author.Tests.{ltb-true, ltb-false}
+use Rattle.slots.specs.Slots.{lowest}
+use Rattle.std.specs.Prelude.{Ok, Err}
+use Rattle.refusals.specs.declared.Refusal.{Refusal}
+use Rattle.refusals.specs.declared.Refusal.TheVariants.{CountsNotAllowed}
+use Rattle.counts.proofs.Tests.{wrong_is}
+use Rattle.counts.specs.Counts.{Tested, passed, count_in, slots_below, is_wrong, test_row, start_in}
 use Rattle.claims.proofs.Counted.{allowed_of, wrong_of, not_both}
 use Rattle.claims.specs.Verdicts.{LowestNot}
 use Rattle.claims.specs.CountsPromises.{CountsAllowed, CountsWrong, a_count, the_total, RightExactly, WrongExactly, fours, FourEach, TenTenTwo}
@@ -35,16 +34,19 @@ one_place row p q (the_total each many e) (the_total each' many' f) = e ∙ sym 
 pub right_exactly : RightExactly
 right_exactly row = (allowed_of row, λ a. go a (test_row row) refl)
   where
-    go : CountsAllowed row → (o : Row) → test_row row ≡ o → test_row row ≡ Right
-    go a Right e = e
-    go a (Wrong p) e = absurd (not_both row p a (wrong_of row p e))
+    go : CountsAllowed row → (o : Tested) → test_row row ≡ o → test_row row ≡ passed
+    go a (Ok u) e = e
+    go a (Err r) e = let w = wrong_is row r e in absurd (not_both row w.0 a (wrong_of row w.0 (e ∙ ap {B = Tested} (λ (x : Refusal). Err x) w.1)))
 
 pub wrong_exactly : WrongExactly
 wrong_exactly row place = (wrong_of row place, λ w. go w (test_row row) refl)
   where
-    go : CountsWrong row place → (o : Row) → test_row row ≡ o → test_row row ≡ Wrong place
-    go w Right e = absurd (not_both row place (allowed_of row e) w)
-    go w (Wrong p) e = e ∙ ap {B = Row} (λ (n : ℕ). Wrong n) (one_place row p place (wrong_of row p e) w)
+    go : CountsWrong row place → (o : Tested) → test_row row ≡ o → test_row row ≡ Err (CountsNotAllowed place)
+    go w (Ok u) e = absurd (not_both row place (allowed_of row e) w)
+    go w (Err r) e =
+        let at = wrong_is row r e in
+        let f = e ∙ ap {B = Tested} (λ (x : Refusal). Err x) at.1 in
+        f ∙ ap {B = Tested} (λ (n : ℕ). Err (CountsNotAllowed n)) (one_place row at.0 place (wrong_of row at.0 f) w)
 
 -- ---- counts worked by hand
 pub four_each : FourEach

@@ -9,17 +9,14 @@ use native.Mathlib.Omega.{arith}
 use lib.Dec.{eqb, leb}
 use lib.ListN.{length, replicate, length-append, length-replicate, replicate-append-replicate}
 use borrow.Author.Tests.{leb-true, eqb-true, eqb-false}
-use Rattle.packs.specs.declared.Outcome.{Outcome}
-use Rattle.packs.specs.declared.Outcome.TheVariants.{Done, Refused as Refuses}
 use Rattle.jobs.specs.Words.{job_of}
 use Rattle.jobs.specs.Packs.{read_job}
 use Rattle.jobs.proofs.Readings.{read_jobs_allowed}
 use Rattle.slots.specs.Slots.{slot_words, kept_in, forgot_in}
-use Rattle.counts.specs.declared.Row.{Row}
-use Rattle.counts.specs.declared.Row.TheVariants.{Right, Wrong}
-use Rattle.counts.specs.declared.Tested.TheVariants.{Passed}
-use Rattle.counts.specs.Counts.{shelf_words, count_in, test_row, on_row, test_shelf, row_in, cleared}
-use Rattle.counts.proofs.Tests.{right_eight, shelf_right, shelf_wrong}
+use Rattle.std.specs.Prelude.{Ok, Err}
+use Rattle.counts.specs.Counts.{Tested, passed, shelf_words, count_in, test_row, on_row, test_shelf, row_in, cleared}
+use Rattle.counts.proofs.Tests.{right_eight, wrong_number, shelf_right, shelf_wrong}
+use Rattle.refusals.specs.Refusals.{place_of}
 use Rattle.counts.proofs.Cleared.{cleared_row, cleared_length, cleared_span}
 use Rattle.checked.specs.Answers.{Reply, refusal, done, accepted}
 use Rattle.shelf.specs.Shelf.{forget_reply, Layout, rowed, slot_from, span_of, size_of, on_society, from_society, kept_shelf, fetch_from, fetch_reply, forgot_shelf, forgot_reply}
@@ -37,6 +34,8 @@ use Rattle.claims.proofs.Every.{all_kept, all_removed}
 use Rattle.claims.proofs.Tables.{few_kept, few_removed}
 use Rattle.claims.proofs.Steps.{laid_row}
 use Rattle.claims.proofs.Laid.{slot, laid, Fits, AllFit, removed_laid, forgotten_laid, fetched_laid, kept_laid}
+use Rattle.std.specs.Prelude.{Ok, Err}
+use Rattle.packs.specs.Reading.{Outcome}
 
 -- a span of c slots of w words is the list laid out
 pub record Held (w c : ℕ) (ts : List Table) (s : List ℕ) : Type 0 where
@@ -140,12 +139,12 @@ module _ (l : Layout) (ok : Lawful l) where
     where
       go : (o : Outcome) → (read_job job).outcome ≡ o
           → on_job o (fetch_from l (job_of (read_job job).words) room xs) ≡ on_job o (fetched (job_of (read_job job).words) room (lists (job_of (read_job job).words).society))
-      go (Done k) e =
+      go (Ok k) e =
           let j = job_of (read_job job).words in
           let c = l.count j.society in
           let held = sim.spans j.society (read_jobs_allowed job k e).society in
           ap {B = Reply} (fetch_in l.words c j room) held.words ∙ fetched_laid l.words ok.wide j room c (lists j.society) held.few held.fit
-      go (Refuses number place) e = refl
+      go (Err r) e = refl
   laid_said_lem (forget society job) xs lists sim =
       let c = l.count society in
       sim_from society (forget_reply l.words c job) (forgotten job) (λ ts x k. ap {B = Reply} (forget_reply l.words c job) k.words ∙ forgotten_laid l.words ok.wide job c ts k.few k.fit) xs lists sim
@@ -153,11 +152,11 @@ module _ (l : Layout) (ok : Lawful l) where
 -- ---- a shelf with its row, and eight lists with theirs
 pub record Stands (xs : List ℕ) (k : Kept) : Type 0 where
   pub row : row_in xs ≡ k.row
-  pub right : test_row k.row ≡ Right
+  pub right : test_row k.row ≡ passed
   pub sim : Sim (rowed k.row) xs k.lists
 
 -- a cleared shelf stands for empty lists
-pub cleared_stands : (counts xs : List ℕ) → test_row (row_in counts) ≡ Right → length xs ≡ shelf_words → Stands (cleared (row_in counts) xs) (emptied counts)
+pub cleared_stands : (counts xs : List ℕ) → test_row (row_in counts) ≡ passed → length xs ≡ shelf_words → Stands (cleared (row_in counts) xs) (emptied counts)
 cleared_stands counts xs e len =
     let row = row_in counts in
     let eight = right_eight counts e in
@@ -174,8 +173,8 @@ module _ (xs : List ℕ) (k : Kept) (st : Stands xs k) where
   len : length xs ≡ shelf_words
   len = st.sim.long
 
-  ready : test_shelf (row_in xs) xs ≡ Passed
-  ready = shelf_right (row_in xs) xs len (ap {B = Row} test_row st.row ∙ st.right)
+  ready : test_shelf (row_in xs) xs ≡ passed
+  ready = shelf_right (row_in xs) xs len (ap {B = Tested} test_row st.row ∙ st.right)
 
   lawful : Lawful (rowed k.row)
   lawful = rowed_lawful k.row st.right
@@ -192,18 +191,18 @@ module _ (xs : List ℕ) (k : Kept) (st : Stands xs k) where
       })
   stands_after (clear counts) = go (test_row (row_in counts)) refl
     where
-      go : (o : Row) → test_row (row_in counts) ≡ o → Stands (after xs (clear counts)) (on_row o (emptied counts) (λ place. k))
-      go Right e = subst (λ (ys : List ℕ). Stands ys (emptied counts)) (clear_passed xs counts (shelf_right (row_in counts) xs len e)).1 (cleared_stands counts xs e len)
-      go (Wrong place) e = subst (λ (ys : List ℕ). Stands ys k) (clear_refused xs counts 22 place (shelf_wrong (row_in counts) xs len place e)).1 st
+      go : (o : Tested) → test_row (row_in counts) ≡ o → Stands (after xs (clear counts)) (on_row o (emptied counts) (λ place. k))
+      go (Ok u) e = subst (λ (ys : List ℕ). Stands ys (emptied counts)) (clear_passed xs counts (shelf_right (row_in counts) xs len e)).1 (cleared_stands counts xs e len)
+      go (Err r) e = subst (λ (ys : List ℕ). Stands ys k) (clear_refused xs counts r (shelf_wrong (row_in counts) xs len r e)).1 st
 
   pub stands_said : (call : Call) → said xs call ≡ kept_say k call
   stands_said (own call) =
       sym (said_passed xs call ready) ∙ ap {B = Reply} (λ (r : List ℕ). laid_said (rowed r) xs call) st.row ∙ laid_said_lem (rowed k.row) lawful call xs k.lists st.sim
   stands_said (clear counts) = go (test_row (row_in counts)) refl
     where
-      go : (o : Row) → test_row (row_in counts) ≡ o → said xs (clear counts) ≡ on_row o done (λ place. refusal 22 place)
-      go Right e = sym (clear_passed xs counts (shelf_right (row_in counts) xs len e)).0
-      go (Wrong place) e = sym (clear_refused xs counts 22 place (shelf_wrong (row_in counts) xs len place e)).0
+      go : (o : Tested) → test_row (row_in counts) ≡ o → said xs (clear counts) ≡ on_row o done (λ place. refusal 22 place)
+      go (Ok u) e = sym (clear_passed xs counts (shelf_right (row_in counts) xs len e)).0
+      go (Err r) e = sym (clear_refused xs counts r (shelf_wrong (row_in counts) xs len r e)).0 ∙ ap {B = Reply} (λ (n : ℕ). refusal n (place_of r)) (wrong_number (row_in counts) r e)
 
 stands_run : (calls : List Call) (xs : List ℕ) (k : Kept) → Stands xs k → shelf_run xs calls ≡ lists_run k calls
 stands_run [] xs k st = refl

@@ -1,6 +1,6 @@
 -- A fetch that is done, from any words: none of the kept numbers was refused, so they are those of a proposal pack, and the verdict on them is that of
 -- the check on this pack and the job presented.
-use Prim.Native.Nat.{ℕ, ◌+◌, ◌-◌, ◌*◌, ◌≤◌, ◌<◌}
+use Prim.Native.Nat.{ℕ, ◌+◌, ◌*◌, ◌≤◌, ◌<◌}
 use mathlib.Core.Path.{◌≡◌, refl, sym, ap, ap₂, ◌∙◌, subst}
 use mathlib.Core.Bool.{Bool, true, false, cond}
 use mathlib.Core.List.{List, [], ◌∷◌, ◌++◌}
@@ -11,26 +11,20 @@ use lib.IntN.{ℤ, pos}
 use lib.ListN.{length, drop, get_or, length-drop, length-append, get_or-append}
 use lib.Seq.{length-take-le}
 use Rattle.std.specs.Prelude.{if◌then◌else◌}
-use Rattle.packs.specs.declared.Outcome.{Outcome}
-use Rattle.packs.specs.declared.Outcome.TheVariants.{Done, Refused as Refuses}
-use Rattle.packs.specs.Reading.{Ran}
+use Rattle.packs.specs.Reading.{Outcome, Ran}
 use Rattle.jobs.specs.Job.{Job}
 use Rattle.jobs.specs.Words.{word_at}
 use Rattle.jobs.specs.Allowed.{Allowed, Proposed}
 use Rattle.jobs.specs.Packs.{job_in, read_job, write_proposal}
 use Rattle.jobs.proofs.Readings.{read_jobs_allowed, read_jobs_laid}
 use Rattle.jobs.proofs.Trips.{proposed_read_back}
-use Rattle.measure.specs.declared.check.Verdict.{Verdict}
-use Rattle.measure.specs.declared.check.Verdict.TheVariants.{Accepted, Refused}
-use Rattle.measure.specs.Check.{on_read, proposal_verdict, check_of, verdict_for}
-use Rattle.slots.specs.declared.Slot.{Slot}
-use Rattle.slots.specs.declared.Slot.TheVariants.{At, Nowhere}
+use Rattle.measure.specs.Check.{Verdict, accepting, on_read, proposal_verdict, check_of, verdict_for}
+use Rattle.std.specs.Prelude.{Option, Some, None}
 use Rattle.slots.specs.Slots.{head_size, values_end, slot_words, lowest, has_job, at_slot}
 use Rattle.checked.specs.Answers.{Reply, refusal, overwritten, answer_of}
 use Rattle.shelf.specs.Fetched.{most_value, most_multiplier, up_to, lowest_above, or_six, proposal_of, kept_verdict, handed, same_counts, fetch_table, kept_cells, kept_links, kept_values, kept_multipliers, fetch_at, fetch_in, on_job}
-use Rattle.counts.specs.declared.Tested.{Tested}
-use Rattle.counts.specs.declared.Tested.TheVariants.{Passed, Refused as Barred}
-use Rattle.counts.specs.Counts.{test_shelf, on_tested, row_in}
+use Rattle.std.specs.Prelude.{Ok, Err}
+use Rattle.counts.specs.Counts.{Tested, test_shelf, on_tested, row_in}
 use Rattle.counts.proofs.Tests.{passed_ready, refused_some}
 use Rattle.shelf.specs.Shelf.{Layout, layout_in, span_of, fetch_from, fetch_reply}
 use Rattle.shelf.specs.Calls.{fetch, own, said}
@@ -45,6 +39,7 @@ use Rattle.claims.specs.BenchPromises.{ToldBest, ToldFetched}
 use Rattle.claims.proofs.Accepted.{no_other_refusal}
 use Rattle.claims.proofs.Far.{close_same}
 use Rattle.claims.proofs.Told.{told, Handed, handed_told}
+use Rattle.refusals.specs.declared.Refusal.TheVariants.{BadProposal}
 
 -- ---- where the verdict on kept numbers has the number 0, every one of them is allowed
 record AllAllowed (first most : ℕ) (numbers : List ℕ) (later : Verdict) : Type 0 where
@@ -58,14 +53,14 @@ none_six first most numbers later n = go (ltb x (length numbers)) refl
     x = lowest_above most numbers
 
     by : Bool → Verdict
-    by b = if b then Refused 6 (first + x) else later
+    by b = if b then Err (BadProposal (first + x)) else later
 
     go : (b : Bool) → ltb x (length numbers) ≡ b → AllAllowed first most numbers later
     go true e = let z : ◌≡◌ {A = ℕ} 6 0 = sym (ap (λ (b : Bool). (answer_of (by b)).number) e) ∙ n in absurd (omega (arith, z))
     go false e = record { small = all_allowed most numbers x refl (ltb-false x (length numbers) e); is = ap {B = Verdict} by e }
 
 -- ---- so they are those of a pack
-module _ (job : List ℕ) (k : ℕ) (reads : (read_job job).outcome ≡ Done k) (v y : List ℕ) (ev : length v ≡ (job_in job).cells) (ey : length y ≡ (job_in job).links)
+module _ (job : List ℕ) (k : ℕ) (reads : (read_job job).outcome ≡ Ok k) (v y : List ℕ) (ev : length v ≡ (job_in job).cells) (ey : length y ≡ (job_in job).links)
     (n : (answer_of (kept_verdict (job_in job) v y)).number ≡ 0) where
   abbrev j : Job
   j = job_in job
@@ -96,7 +91,7 @@ module _ (job : List ℕ) (k : ℕ) (reads : (read_job job).outcome ≡ Done k) 
   abbrev pack : List ℕ
   pack = (write_proposal j.cells j.links words).bytes
 
-  read_back : proposal_in job pack ≡ record { words = words; outcome = Done (length words) }
+  read_back : proposal_in job pack ≡ record { words = words; outcome = Ok (length words) }
   read_back = proposed_read_back j.cells j.links words proposed
 
   checked : check_of job pack ≡ kept_verdict j v y
@@ -123,10 +118,10 @@ Behind job r = r.answer.number ≡ 0 → Given job r
 
 -- a reply's number is its verdict's, but for 13
 handed_zero : (room : ℕ) (v : List ℕ) (w : Verdict) → (handed room v w).answer.number ≡ 0 → (answer_of w).number ≡ 0
-handed_zero room v (Accepted F G) n = refl
-handed_zero room v (Refused number place) n = n
+handed_zero room v (Ok f) n = refl
+handed_zero room v (Err r) n = n
 
-module _ (job : List ℕ) (k : ℕ) (reads : (read_job job).outcome ≡ Done k) (room : ℕ) where
+module _ (job : List ℕ) (k : ℕ) (reads : (read_job job).outcome ≡ Ok k) (room : ℕ) where
   abbrev its_job : Job
   its_job = job_in job
 
@@ -168,11 +163,11 @@ module _ (job : List ℕ) (k : ℕ) (reads : (read_job job).outcome ≡ Done k) 
   unfolding fetch_in
   span_behind w c s wide len n = go (lowest (has_job its_job.number) w c s) refl n
     where
-      go : (o : Slot) → lowest (has_job its_job.number) w c s ≡ o → Behind job (at_slot o (λ p. fetch_at its_job room (drop (w * p) s)) (refusal 12 0))
-      go (At p) e m =
+      go : (o : Option ℕ) → lowest (has_job its_job.number) w c s ≡ o → Behind job (at_slot o (λ p. fetch_at its_job room (drop (w * p) s)) (refusal 12 0))
+      go (Some p) e m =
           let h = slot_within w c p (found_below (has_job its_job.number) w c s p e) in
           slot_behind (drop (w * p) s) (rw length-drop (omega (arith, slot_end w p))) m
-      go Nowhere e m = absurd (omega (arith, m))
+      go None e m = absurd (omega (arith, m))
 
 -- ---- a whole shelf, and any words
 whole_behind : (l : Layout) → Lawful l → (job : List ℕ) (room : ℕ) (shelf : List ℕ) → length shelf ≡ l.total → Behind job (fetch_reply l job room shelf)
@@ -180,17 +175,17 @@ unfolding fetch_reply
 whole_behind l ok job room shelf len n = go (read_job job).outcome refl n
   where
     go : (o : Outcome) → (read_job job).outcome ≡ o → Behind job (on_job o (fetch_from l (job_in job) room shelf))
-    go (Done k) e m =
+    go (Ok k) e m =
         let s = (job_in job).society in
         span_behind job k e room l.words (l.count s) (span_of l s shelf) ok.wide (span_length l ok s shelf len (read_jobs_allowed job k e).society) m
-    go (Refuses number place) e m = absurd (omega (arith, m, (no_other_refusal job [] number place (ap (λ (o : Outcome). on_read o (proposal_verdict (job_in job) [])) e)).0))
+    go (Err r) e m = absurd (omega (arith, m, (no_other_refusal job [] number place (ap (λ (o : Outcome). on_read o (proposal_verdict (job_in job) [])) e)).0))
 
 any_behind : (shelf job : List ℕ) (room : ℕ) → Behind job (said shelf (own (fetch job room)))
 any_behind shelf job room n = go (test_shelf (row_in shelf) shelf) refl n
   where
     go : (o : Tested) → test_shelf (row_in shelf) shelf ≡ o → Behind job (on_tested o (fetch_reply (layout_in shelf) job room shelf) refusal)
-    go Passed e m = let r = passed_ready shelf e in whole_behind (layout_in shelf) (rowed_lawful (row_in shelf) r.row) job room shelf r.long m
-    go (Barred number place) e m = absurd (refused_some (row_in shelf) shelf number place e m)
+    go (Ok u) e m = let r = passed_ready shelf e in whole_behind (layout_in shelf) (rowed_lawful (row_in shelf) r.row) job room shelf r.long m
+    go (Err r) e m = absurd (refused_some (row_in shelf) shelf r e m)
 
 -- ---- the words that C gets
 pub fetch_told : (shelf job out answered left : List ℕ) → (said shelf (own (fetch job (length out)))).answer.number ≡ 0

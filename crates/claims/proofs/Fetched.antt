@@ -10,20 +10,16 @@ use borrow.Author.Tests.{eqb-true}
 use lib.Dec.{eqb}
 use lib.IntN.{ℤ, pos}
 use lib.ListN.{length, get_or}
-use Rattle.packs.specs.declared.Outcome.{Outcome}
-use Rattle.packs.specs.declared.Outcome.TheVariants.{Done, Refused as Refuses}
-use Rattle.packs.specs.Reading.{Ran}
+use Rattle.packs.specs.Reading.{Outcome, Ran}
 use Rattle.jobs.specs.Job.{Job}
 use Rattle.jobs.specs.Words.{word_at}
 use Rattle.jobs.specs.Packs.{job_in, read_job}
-use Rattle.measure.specs.declared.check.Verdict.{Verdict}
-use Rattle.measure.specs.Check.{on_read, proposal_verdict, check_of}
+use Rattle.measure.specs.Check.{Verdict, on_read, proposal_verdict, check_of}
 use Rattle.checked.specs.Answers.{Reply, accepted}
 use Rattle.checked.specs.Checked.{Checked, checked_of, values_of}
 use Rattle.shelf.specs.Fetched.{handed, same_counts, on_job}
-use Rattle.counts.specs.declared.Row.{Row}
-use Rattle.counts.specs.declared.Row.TheVariants.{Right, Wrong}
-use Rattle.counts.specs.Counts.{count_in, test_row, on_row, row_in}
+use Rattle.std.specs.Prelude.{Ok, Err}
+use Rattle.counts.specs.Counts.{Tested, count_in, test_row, on_row, row_in}
 use Rattle.shelf.specs.Calls.{Own, Call, keep, fetch, forget, own, clear, said}
 use Rattle.numbers.proofs.Both.{both}
 use Rattle.checked.proofs.Sound.{accepted_read, values_count, multipliers_count}
@@ -38,6 +34,7 @@ use Rattle.claims.proofs.Told.{handed_told}
 use Rattle.claims.proofs.Every.{All, all_kept, all_removed}
 use Rattle.claims.proofs.AsChecked.{value_kept, same_proposal, fetched_checked, counts_refused}
 use Rattle.claims.proofs.LastKept.{fetch_said}
+use Rattle.std.specs.Prelude.{Ok, Err}
 
 -- ---- what holds of every kept table holds of every table of the lists
 module _ (P : (society : ℕ) → Table → Type 0) where
@@ -74,9 +71,9 @@ module _ (P : (society : ℕ) → Table → Type 0) where
   each_after (own call) calls new k a = each_own (count_in k.row) call calls new k.lists a
   each_after (clear counts) calls new k a = go (test_row (row_in counts))
     where
-      go : (o : Row) → Each (on_row o (emptied counts) (λ place. k)).lists
-      go Right = λ s. tt
-      go (Wrong place) = a
+      go : (o : Tested) → Each (on_row o (emptied counts) (λ place. k)).lists
+      go (Ok u) = λ s. tt
+      go (Err r) = a
 
   each_all : (calls : List Call) → New calls → (k : Kept) → Each k.lists → Each (all_after k calls).lists
   each_all [] new k a = a
@@ -176,9 +173,9 @@ fetched_of counts shelf from calls job room n =
   where
     go : (o : Outcome) → (read_job job).outcome ≡ o → (on_job o (fetched (job_in job) room (held counts calls (job_in job).society))).answer.number ≡ 0
         → IsAccepted calls job (on_job o (fetched (job_in job) room (held counts calls (job_in job).society)))
-    go (Done k) e m =
+    go (Ok k) e m =
         let j = job_in job in
         let ts = held counts calls j.society in
         let g = fetched_gives (Came calls j.society) j room ts (came counts calls j.society) (λ z. omega (arith, m, z)) in
         subst (λ (x : Reply). IsAccepted calls job x) (sym g.is) (behind calls job room (k, e) g.table g.holds g.its_job (sym (ap (λ (x : Reply). x.answer.number) g.is) ∙ m))
-    go (Refuses number place) e m = absurd (omega (arith, m, (no_other_refusal job [] number place (ap (λ (o : Outcome). on_read o (proposal_verdict (job_in job) [])) e)).0))
+    go (Err r) e m = absurd (omega (arith, m, (no_other_refusal job [] number place (ap (λ (o : Outcome). on_read o (proposal_verdict (job_in job) [])) e)).0))

@@ -16,17 +16,14 @@ use Rattle.whole.specs.Sum.{sum}
 use Rattle.whole.proofs.Sums.{sum_cong, sum_ext}
 use Rattle.whole.proofs.Parts.{sum_split}
 use Rattle.std.specs.Prelude.{if◌then◌else◌}
-use Rattle.packs.specs.declared.Outcome.TheVariants.{Done, Refused as Refuses}
 use Rattle.packs.specs.Reading.{Ran}
 use Rattle.jobs.specs.Job.{Job}
 use Rattle.jobs.specs.Words.{word_at}
 use Rattle.jobs.specs.Packs.{job_in, handed_out}
 use Rattle.tally.specs.Largest.{Largest}
-use Rattle.measure.specs.declared.check.Verdict.{Verdict}
-use Rattle.measure.specs.declared.check.Verdict.TheVariants.{Accepted, Refused}
 use Rattle.measure.specs.Gap.{gap_of}
 use Rattle.measure.specs.Largest.{term_at}
-use Rattle.measure.specs.Check.{check_of}
+use Rattle.measure.specs.Check.{Verdict, accepting, check_of}
 use Rattle.measure.proofs.Largest.{front_is, back_is}
 use Rattle.terms.specs.Listing.{entry_at, entries, end_of, terms_of}
 use Rattle.terms.proofs.Listings.{entries_count, entries_word, side_cell, residual_cell, side_link, residual_link}
@@ -37,23 +34,24 @@ use Rattle.claims.proofs.Unwritten.{Kept, handed}
 use Rattle.claims.proofs.Beyond.{Within}
 use Rattle.claims.proofs.Sides.{side_told}
 use Rattle.claims.proofs.Accepted.{above_exactly, no_other_refusal}
+use Rattle.std.specs.Prelude.{Ok, Err}
 
 -- ---- a refusal with its number, or all words and room for them
 
-module _ (P : Ran → Type 0) (refuse : (number place : ℕ) → 1 ≤ number → Among (13 ∷ []) 8 number → P (record { words = []; outcome = Refuses number place }))
-    (room count : ℕ) (ws : List ℤ) (done : count ≤ room → P (record { words = ws; outcome = Done count })) where
-  room_cases : P (handed_out room ws (Done count))
+module _ (P : Ran → Type 0) (refuse : (number place : ℕ) → 1 ≤ number → Among (13 ∷ []) 8 number → P (record { words = []; outcome = Err r }))
+    (room count : ℕ) (ws : List ℤ) (done : count ≤ room → P (record { words = ws; outcome = Ok count })) where
+  room_cases : P (handed_out room ws (Ok count))
   room_cases = go (ltb room count) refl
     where
       go : (t : Bool) → ltb room count ≡ t → P (handed count ws t)
       go true e = refuse 13 count (omega arith) (inl refl)
       go false e = done (ltb-false room count e)
 
-  end_cases : (v : Verdict) → ((number place : ℕ) → v ≡ Refused number place → (1 ≤ number) × (number ≤ 9)) → P (handed_out room ws (end_of count v))
-  end_cases (Accepted F G) few = room_cases
-  end_cases (Refused number place) few = go (eqb number 9) refl
+  end_cases : (v : Verdict) → ((number place : ℕ) → v ≡ Err r → (1 ≤ number) × (number ≤ 9)) → P (handed_out room ws (end_of count v))
+  end_cases (Ok f) few = room_cases
+  end_cases (Err r) few = go (eqb number 9) refl
     where
-      go : (b : Bool) → eqb number 9 ≡ b → P (handed_out room ws (if b then Done count else Refuses number place))
+      go : (b : Bool) → eqb number 9 ≡ b → P (handed_out room ws (if b then Ok count else Err r))
       go true e = room_cases
       go false e = refuse number place (few number place refl).0 (inr (omega (arith, (few number place refl).1, other)))
         where
@@ -67,8 +65,8 @@ module _ (room : ℕ) (job proposal : List ℕ) where
   abbrev words : List ℤ
   words = entries (job_in job) (values_in job proposal) (multipliers_in job proposal) ((job_in job).cells + (job_in job).links)
 
-  terms_cases : (P : Ran → Type 0) → ((number place : ℕ) → 1 ≤ number → Among (13 ∷ []) 8 number → P (record { words = []; outcome = Refuses number place }))
-      → (count ≤ room → P (record { words = words; outcome = Done count })) → P (terms_of room job proposal)
+  terms_cases : (P : Ran → Type 0) → ((number place : ℕ) → 1 ≤ number → Among (13 ∷ []) 8 number → P (record { words = []; outcome = Err r }))
+      → (count ≤ room → P (record { words = words; outcome = Ok count })) → P (terms_of room job proposal)
   terms_cases P refuse done = end_cases P refuse room count words done (check_of job proposal) (no_other_refusal job proposal)
 
   pub terms_number : Among (13 ∷ []) 8 (outcome_of (terms_of room job proposal).outcome).number

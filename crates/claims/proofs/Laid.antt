@@ -9,8 +9,7 @@ use lib.ListN.{length, take, drop, get_or, replicate, length-append, length-repl
 use lib.Seq.{take_at, drop_at}
 use borrow.Author.Tests.{le-leb, ltb-true, ltb-false}
 use Rattle.jobs.specs.Job.{Job}
-use Rattle.slots.specs.declared.Slot.{Slot}
-use Rattle.slots.specs.declared.Slot.TheVariants.{At, Nowhere}
+use Rattle.std.specs.Prelude.{Option, Some, None}
 use Rattle.slots.specs.Slots.{most_cells, most_links, head_size, values_end, slot_words, head_of, padded, slot_of, is_full, is_empty, has_job, lowest, pick, later, or_else, at_slot, put_slot, dropped_slot, pushed, slot_for, kept_in, forgot_in}
 use Rattle.checked.specs.Answers.{Reply, refusal, done}
 use Rattle.shelf.specs.Shelf.{forget_reply}
@@ -96,7 +95,7 @@ module _ (w : ℕ) (wide : slot_words ≤ w) where
   empty r = rw (hollow r)
 
   -- ---- no job is found among zeros
-  seek_none : (j c : ℕ) → lowest (has_job j) w c (laid w c []) ≡ Nowhere
+  seek_none : (j c : ℕ) → lowest (has_job j) w c (laid w c []) ≡ None
   unfolding laid lowest
   seek_none j zero = refl
   seek_none j (suc c) = lowest_step w (replicate w 0) (laid w c []) zero_len c (has_job j) false (lacks (laid w c []) j) ∙ ap later (seek_none j c)
@@ -111,7 +110,7 @@ module _ (w : ℕ) (wide : slot_words ≤ w) where
 
   pub removed_laid : (j c : ℕ) (ts : List Table) → length ts ≤ c → AllFit ts → forgot_in w c j (laid w c ts) ≡ laid w c (removed j ts)
   unfolding laid forgot_in
-  removed_laid j c [] h a = ap (λ (o : Slot). at_slot o (λ p. dropped_slot w p (laid w c [])) (laid w c [])) (seek_none j c)
+  removed_laid j c [] h a = ap (λ (o : Option ℕ). at_slot o (λ p. dropped_slot w p (laid w c [])) (laid w c [])) (seek_none j c)
   removed_laid j zero (t ∷ ts) h a = absurd (omega arith)
   removed_laid j (suc c) (t ∷ ts) h a =
       forgot_step w (slot w t) (laid w c ts) (slot_len t a.0) c j (is_of j t) (has t a.0 (laid w c ts) j) ∙ go (is_of j t) (removed_laid j c ts (omega arith) a.1)
@@ -122,7 +121,7 @@ module _ (w : ℕ) (wide : slot_words ≤ w) where
 
   pub forgotten_laid : (j c : ℕ) (ts : List Table) → length ts ≤ c → AllFit ts → forget_reply w c j (laid w c ts) ≡ forgotten j ts
   unfolding laid forget_reply
-  forgotten_laid j c [] h a = ap {B = Reply} (λ (o : Slot). at_slot o (λ p. done) (refusal 12 0)) (seek_none j c)
+  forgotten_laid j c [] h a = ap {B = Reply} (λ (o : Option ℕ). at_slot o (λ p. done) (refusal 12 0)) (seek_none j c)
   forgotten_laid j zero (t ∷ ts) h a = absurd (omega arith)
   forgotten_laid j (suc c) (t ∷ ts) h a =
       forget_reply_step w (slot w t) (laid w c ts) (slot_len t a.0) c j (is_of j t) (has t a.0 (laid w c ts) j) ∙ go (is_of j t) (forgotten_laid j c ts (omega arith) a.1)
@@ -134,7 +133,7 @@ module _ (w : ℕ) (wide : slot_words ≤ w) where
   -- ---- a fetch
   pub fetched_laid : (j : Job) (room c : ℕ) (ts : List Table) → length ts ≤ c → AllFit ts → fetch_in w c j room (laid w c ts) ≡ fetched j room ts
   unfolding laid fetch_in
-  fetched_laid j room c [] h a = ap {B = Reply} (λ (o : Slot). at_slot o (λ p. fetch_at j room (drop (w * p) (laid w c []))) (refusal 12 0)) (seek_none j.number c)
+  fetched_laid j room c [] h a = ap {B = Reply} (λ (o : Option ℕ). at_slot o (λ p. fetch_at j room (drop (w * p) (laid w c []))) (refusal 12 0)) (seek_none j.number c)
   fetched_laid j room zero (t ∷ ts) h a = absurd (omega arith)
   fetched_laid j room (suc c) (t ∷ ts) h a =
       fetch_step w (slot w t) (laid w c ts) (slot_len t a.0) c j (is_of j.number t) (has t a.0 (laid w c ts) j.number) room ∙ go (is_of j.number t) (fetched_laid j room c ts (omega arith) a.1)
@@ -146,7 +145,7 @@ module _ (w : ℕ) (wide : slot_words ≤ w) where
   -- ---- a keep: where the job is
   replaced_laid : (u : Table) (c : ℕ) (ts : List Table) → length ts ≤ c → AllFit ts → replaced_in w c u.job (slot w u) (laid w c ts) ≡ laid w c (replaced u ts)
   unfolding laid replaced_in
-  replaced_laid u c [] h a = ap (λ (o : Slot). at_slot o (λ p. put_slot w p (slot w u) (laid w c [])) (laid w c [])) (seek_none u.job c)
+  replaced_laid u c [] h a = ap (λ (o : Option ℕ). at_slot o (λ p. put_slot w p (slot w u) (laid w c [])) (laid w c [])) (seek_none u.job c)
   replaced_laid u zero (t ∷ ts) h a = absurd (omega arith)
   replaced_laid u (suc c) (t ∷ ts) h a =
       replaced_step w (slot w t) (laid w c ts) (slot_len t a.0) c u.job (is_of u.job t) (has t a.0 (laid w c ts) u.job) (slot w u) ∙ go (is_of u.job t) (replaced_laid u c ts (omega arith) a.1)
@@ -156,14 +155,14 @@ module _ (w : ℕ) (wide : slot_words ≤ w) where
       go false e = ap (λ (l : List ℕ). slot w t ++ l) e
 
   -- ---- at the end
-  seek_room : (c : ℕ) (ts : List Table) → length ts < c → AllFit ts → lowest is_empty w c (laid w c ts) ≡ At (length ts)
+  seek_room : (c : ℕ) (ts : List Table) → length ts < c → AllFit ts → lowest is_empty w c (laid w c ts) ≡ Some (length ts)
   unfolding laid lowest
   seek_room zero ts h a = absurd (omega arith)
   seek_room (suc c) [] h a = lowest_step w (replicate w 0) (laid w c []) zero_len c is_empty true (empty (laid w c []))
   seek_room (suc c) (t ∷ ts) h a =
       lowest_step w (slot w t) (laid w c ts) (slot_len t a.0) c is_empty false (filled t a.0 (laid w c ts)) ∙ ap later (seek_room c ts (omega arith) a.1)
 
-  seek_full : (c : ℕ) (ts : List Table) → length ts ≡ c → AllFit ts → lowest is_empty w c (laid w c ts) ≡ Nowhere
+  seek_full : (c : ℕ) (ts : List Table) → length ts ≡ c → AllFit ts → lowest is_empty w c (laid w c ts) ≡ None
   unfolding laid lowest
   seek_full zero ts h a = refl
   seek_full (suc c) [] h a = absurd (omega arith)
@@ -192,9 +191,9 @@ module _ (w : ℕ) (wide : slot_words ≤ w) where
   pushed_laid u (suc c) (t ∷ ts) pos h a = ap (λ (l : List ℕ). l ++ slot w u) (drop_first w (slot w t) (laid w c ts) (slot_len t a.0)) ∙ last_laid u c ts (omega arith)
 
   -- ---- a keep, by where the job was found
-  abbrev is_at : Slot → Bool
-  is_at (At p) = true
-  is_at Nowhere = false
+  abbrev is_at : Option ℕ → Bool
+  is_at (Some p) = true
+  is_at None = false
 
   sought : (j c : ℕ) (ts : List Table) → length ts ≤ c → AllFit ts → is_at (lowest (has_job j) w c (laid w c ts)) ≡ holds j ts
   unfolding laid
@@ -203,42 +202,42 @@ module _ (w : ℕ) (wide : slot_words ≤ w) where
   sought j (suc c) (t ∷ ts) h a =
       ap is_at (lowest_step w (slot w t) (laid w c ts) (slot_len t a.0) c (has_job j) (is_of j t) (has t a.0 (laid w c ts) j)) ∙ go (is_of j t) (lowest (has_job j) w c (laid w c ts)) (sought j c ts (omega arith) a.1)
     where
-      go : (b : Bool) (o : Slot) → is_at o ≡ holds j ts → is_at (pick b (At 0) (later o)) ≡ (b || holds j ts)
+      go : (b : Bool) (o : Option ℕ) → is_at o ≡ holds j ts → is_at (pick b (Some 0) (later o)) ≡ (b || holds j ts)
       go true o e = refl
-      go false (At p) e = e
-      go false Nowhere e = e
+      go false (Some p) e = e
+      go false None e = e
 
   module _ (u : Table) (c : ℕ) (ts : List Table) (pos : 0 < c) (few : length ts ≤ c) (a : AllFit ts) where
-    kept_at : (p : ℕ) → lowest (has_job u.job) w c (laid w c ts) ≡ At p → kept_in w c u.job (slot w u) (laid w c ts) ≡ replaced_in w c u.job (slot w u) (laid w c ts)
+    kept_at : (p : ℕ) → lowest (has_job u.job) w c (laid w c ts) ≡ Some p → kept_in w c u.job (slot w u) (laid w c ts) ≡ replaced_in w c u.job (slot w u) (laid w c ts)
     unfolding kept_in slot_for replaced_in
     kept_at p e =
-        ap (λ (o : Slot). at_slot (or_else o (lowest is_empty w c (laid w c ts))) (λ q. put_slot w q (slot w u) (laid w c ts)) (pushed w (slot w u) (laid w c ts))) e
-        ∙ sym (ap (λ (o : Slot). at_slot o (λ q. put_slot w q (slot w u) (laid w c ts)) (laid w c ts)) e)
+        ap (λ (o : Option ℕ). at_slot (or_else o (lowest is_empty w c (laid w c ts))) (λ q. put_slot w q (slot w u) (laid w c ts)) (pushed w (slot w u) (laid w c ts))) e
+        ∙ sym (ap (λ (o : Option ℕ). at_slot o (λ q. put_slot w q (slot w u) (laid w c ts)) (laid w c ts)) e)
 
-    kept_new : (o : Slot) → lowest (has_job u.job) w c (laid w c ts) ≡ Nowhere → lowest is_empty w c (laid w c ts) ≡ o
+    kept_new : (o : Option ℕ) → lowest (has_job u.job) w c (laid w c ts) ≡ None → lowest is_empty w c (laid w c ts) ≡ o
         → kept_in w c u.job (slot w u) (laid w c ts) ≡ at_slot o (λ q. put_slot w q (slot w u) (laid w c ts)) (pushed w (slot w u) (laid w c ts))
     unfolding kept_in slot_for
     kept_new o e f =
-        ap (λ (r : Slot). at_slot (or_else r (lowest is_empty w c (laid w c ts))) (λ q. put_slot w q (slot w u) (laid w c ts)) (pushed w (slot w u) (laid w c ts))) e
-        ∙ ap (λ (r : Slot). at_slot r (λ q. put_slot w q (slot w u) (laid w c ts)) (pushed w (slot w u) (laid w c ts))) f
+        ap (λ (r : Option ℕ). at_slot (or_else r (lowest is_empty w c (laid w c ts))) (λ q. put_slot w q (slot w u) (laid w c ts)) (pushed w (slot w u) (laid w c ts))) e
+        ∙ ap (λ (r : Option ℕ). at_slot r (λ q. put_slot w q (slot w u) (laid w c ts)) (pushed w (slot w u) (laid w c ts))) f
 
-    next_laid : (b : Bool) → ltb (length ts) c ≡ b → lowest (has_job u.job) w c (laid w c ts) ≡ Nowhere
+    next_laid : (b : Bool) → ltb (length ts) c ≡ b → lowest (has_job u.job) w c (laid w c ts) ≡ None
         → kept_in w c u.job (slot w u) (laid w c ts) ≡ laid w c (cond b ts (youngest ts) ++ (u ∷ []))
     next_laid true e n =
         let l = ltb-true (length ts) c e in
-        kept_new (At (length ts)) n (seek_room c ts l a) ∙ appended_laid u c ts l a
+        kept_new (Some (length ts)) n (seek_room c ts l a) ∙ appended_laid u c ts l a
     next_laid false e n =
         let l = ltb-false (length ts) c e in
         let f : length ts ≡ c = omega arith in
-        kept_new Nowhere n (seek_full c ts f a) ∙ pushed_laid u c ts pos f a
+        kept_new None n (seek_full c ts f a) ∙ pushed_laid u c ts pos f a
 
     pub kept_laid : kept_in w c u.job (slot w u) (laid w c ts) ≡ laid w c (kept c u ts)
     kept_laid = go (lowest (has_job u.job) w c (laid w c ts)) refl
       where
-        go : (o : Slot) → lowest (has_job u.job) w c (laid w c ts) ≡ o → kept_in w c u.job (slot w u) (laid w c ts) ≡ laid w c (kept c u ts)
-        go (At p) e =
+        go : (o : Option ℕ) → lowest (has_job u.job) w c (laid w c ts) ≡ o → kept_in w c u.job (slot w u) (laid w c ts) ≡ laid w c (kept c u ts)
+        go (Some p) e =
             let y : holds u.job ts ≡ true = sym (sought u.job c ts few a) ∙ ap is_at e in
             kept_at p e ∙ replaced_laid u c ts few a ∙ ap (λ (b : Bool). laid w c (cond b (replaced u ts) (cond (ltb (length ts) c) ts (youngest ts) ++ (u ∷ [])))) (sym y)
-        go Nowhere e =
+        go None e =
             let n : holds u.job ts ≡ false = sym (sought u.job c ts few a) ∙ ap is_at e in
             next_laid (ltb (length ts) c) refl e ∙ ap (λ (b : Bool). laid w c (cond b (replaced u ts) (cond (ltb (length ts) c) ts (youngest ts) ++ (u ∷ [])))) (sym n)

@@ -10,18 +10,14 @@ use lib.Dec.{eqb, ltb}
 use lib.ListN.{length}
 use borrow.Author.Tests.{le-leb, eqb-true, eqb-false, eq-eqb, ne_eqb}
 use lib.IntN.{nat_abs}
-use Rattle.packs.specs.declared.Outcome.{Outcome}
 use Rattle.jobs.specs.Job.{Job}
 use Rattle.jobs.specs.Packs.{job_in, read_job}
-use Rattle.measure.specs.declared.check.Verdict.{Verdict}
-use Rattle.measure.specs.declared.check.Verdict.TheVariants.{Accepted, Refused}
-use Rattle.measure.specs.Check.{check_of}
+use Rattle.measure.specs.Check.{Verdict, accepting, check_of}
 use Rattle.checked.specs.Answers.{Reply, refusal, accepted, answer_of}
 use Rattle.checked.specs.Checked.{Checked, checked_of, values_of, multipliers_of}
 use Rattle.shelf.specs.Fetched.{handed, on_job}
-use Rattle.counts.specs.declared.Row.{Row}
-use Rattle.counts.specs.declared.Row.TheVariants.{Right, Wrong}
-use Rattle.counts.specs.Counts.{count_in, test_row, on_row, row_in}
+use Rattle.std.specs.Prelude.{Ok, Err}
+use Rattle.counts.specs.Counts.{Tested, count_in, test_row, on_row, row_in}
 use Rattle.shelf.specs.Calls.{Own, Call, keep, fetch, forget, own, clear, after, said}
 use Rattle.claims.specs.Lists.{Table, table_from, is_of, holds, replaced, removed, youngest, kept, table_for, fetched, Lists, on_list, kept_lists, lists_after, Kept, emptied, kept_after}
 use Rattle.claims.specs.CountsPromises.{fours}
@@ -33,6 +29,8 @@ use Rattle.claims.specs.Read.{Reads}
 use Rattle.checked.proofs.Sound.{accepted_read, values_count}
 use Rattle.claims.proofs.EightLists.{Stands, stands_after, stands_said, from_cleared}
 use Rattle.claims.proofs.AsChecked.{fetched_checked}
+use Rattle.std.specs.Prelude.{Ok, Err}
+use Rattle.packs.specs.Reading.{Outcome}
 
 clash : {A : Type 0} → false ≡ true → A
 clash e = absurd (true≢false (sym e))
@@ -273,9 +271,9 @@ module _ (s j : ℕ) where
   last_step (own call) k last h = last_after_lem (count_in k.row) s j call k.lists last h
   last_step (clear counts) k last h = go (test_row (row_in counts))
     where
-      go : (o : Row) → Last j ((on_row o (emptied counts) (λ place. k)).lists s) last
-      go Right = record { distinct = tt; is = λ t f. none_some t f }
-      go (Wrong place) = h
+      go : (o : Tested) → Last j ((on_row o (emptied counts) (λ place. k)).lists s) last
+      go (Ok u) = record { distinct = tt; is = λ t f. none_some t f }
+      go (Err r) = h
 
   last_all : (calls : List Call) (k : Kept) (last : Option Table) → Last j (k.lists s) last → Last j ((all_after k calls).lists s) (last_from s j last calls)
   last_all [] k last h = h
@@ -326,9 +324,9 @@ module _ (counts shelf : List ℕ) (from : ClearedWith counts shelf) where
 -- ---- with the job pack under which it was kept
 accepted_given : (room : ℕ) (job : ℕ) (vs ms : List ℕ) (v : Verdict) → accepted v ≡ true → length vs ≤ room
     → handed room vs v ≡ given (record { job = job; loss = (answer_of v).loss; gap = (answer_of v).gap; values = vs; multipliers = ms })
-accepted_given room job vs ms (Accepted F G) y h =
+accepted_given room job vs ms (Ok f) y h =
     ap {B = Reply} (λ (b : Bool). cond b (record { answer = record { number = 0; place = length vs; loss = nat_abs F; gap = nat_abs G }; values = vs }) (refusal 13 (length vs))) (le-leb (length vs) room h)
-accepted_given room job vs ms (Refused number place) y h = clash y
+accepted_given room job vs ms (Err r) y h = clash y
 
 pub same_given : (job proposal : List ℕ) → accepted (check_of job proposal) ≡ true → (room : ℕ) → (job_in job).cells ≤ room
     → table_for (job_in job) room (table_from (checked_of job proposal)) ≡ given (table_from (checked_of job proposal))

@@ -6,11 +6,8 @@ use mathlib.Core.List.{List, [], ◌∷◌}
 use native.Mathlib.Omega.{arith}
 use lib.ListN.{length}
 use lib.Seq.{sets}
-use Rattle.packs.specs.declared.Outcome.{Outcome}
-use Rattle.packs.specs.declared.Outcome.TheVariants.{Done, Refused}
 use Rattle.jobs.specs.Packs.{write_proposal}
 use Rattle.house.proofs.Packable.{proposed_writes}
-use Rattle.linked.specs.declared.Offer.TheVariants.{Refused as Refuses}
 use Rattle.linked.specs.Proposal.{Linked, linked_words, counting, written_after, linked_of}
 use Rattle.linked.proofs.Words.{linked_proposed}
 use Rattle.linked.proofs.Cases.{linked_cases, counting_refused}
@@ -21,6 +18,8 @@ use Rattle.claims.proofs.Numbers.{refused_one_to_five}
 use Rattle.claims.proofs.Unwritten.{Kept, write_kept}
 use Rattle.claims.proofs.CallNumbers.{room_number}
 use Rattle.claims.proofs.Beyond.{proposal_within}
+use Rattle.std.specs.Prelude.{Ok, Err}
+use Rattle.packs.specs.Reading.{Outcome}
 
 module _ (room passes : ℕ) (job : List ℕ) where
   -- ---- numbers
@@ -28,8 +27,8 @@ module _ (room passes : ℕ) (job : List ℕ) where
   LinkedNumber number = Among (10 ∷ 13 ∷ 14 ∷ 20 ∷ 21 ∷ []) 5 number
 
   same_number : (p : ℕ) (o : Outcome) → LinkedNumber (outcome_of o).number → LinkedNumber (offer_of (counting p o)).number
-  same_number p (Done n) h = h
-  same_number p (Refused number place) h = h
+  same_number p (Ok n) h = h
+  same_number p (Err r) h = h
 
   pub linked_number : LinkedNumber (offer_of (linked_of room passes job).offer).number
   linked_number =
@@ -44,8 +43,8 @@ module _ (room passes : ℕ) (job : List ℕ) where
 
   -- ---- refusals
   same_kept : (p : ℕ) (o : Outcome) {before after : List ℕ} → Kept (outcome_of o) before after → Kept (offer_of (counting p o)) before after
-  same_kept p (Done n) k r = absurd (r refl)
-  same_kept p (Refused number place) k r = k r
+  same_kept p (Ok n) k r = absurd (r refl)
+  same_kept p (Err r) k r = k r
 
   pub linked_kept : (before : List ℕ) → Kept (offer_of (linked_of room passes job).offer) before (sets before 0 (linked_of room passes job).bytes)
   linked_kept before =
@@ -55,8 +54,8 @@ module _ (room passes : ℕ) (job : List ℕ) where
 
   -- ---- outputs
   same_place : (p : ℕ) (o : Outcome) (made : List ℕ) → length made ≤ (outcome_of o).place → length made ≤ (offer_of (counting p o)).place
-  same_place p (Done n) made h = h
-  same_place p (Refused number place) made h = h
+  same_place p (Ok n) made h = h
+  same_place p (Err r) made h = h
 
   pub linked_within : length (linked_of room passes job).bytes ≤ (offer_of (linked_of room passes job).offer).place
   linked_within =
@@ -65,9 +64,9 @@ module _ (room passes : ℕ) (job : List ℕ) where
       (λ j s p A. same_place p (written_after room j s).outcome (written_after room j s).bytes (proposal_within room j (linked_words j s)))
 
   -- ---- a refusal's number is none of success
-  pub linked_refused : {number place : ℕ} → (linked_of room passes job).offer ≡ Refuses number place → 1 ≤ number
+  pub linked_refused : {number place : ℕ} → (linked_of room passes job).offer ≡ Err r → 1 ≤ number
   linked_refused {number} {place} =
-      linked_cases (λ (r : Linked). r.offer ≡ Refuses number place → 1 ≤ number) room passes job (λ e. let q : 21 ≡ number = cc in omega arith)
+      linked_cases (λ (r : Linked). r.offer ≡ Err r → 1 ≤ number) room passes job (λ e. let q : 21 ≡ number = cc in omega arith)
       (λ a b f e. let q : a ≡ number = cc in omega (arith, (refused_one_to_five job a b f).0)) (λ e. let q : 20 ≡ number = cc in omega arith)
       (λ cell h e. let q : 10 ≡ number = cc in omega arith) (λ h e. let q : 14 ≡ number = cc in omega arith)
       (λ j s p A e. omega (arith, written_room room (linked_words j s) (linked_proposed j s A) (counting_refused p (written_after room j s).outcome e)))

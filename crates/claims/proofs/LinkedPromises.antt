@@ -7,13 +7,10 @@ use native.Mathlib.Omega.{arith}
 use lib.IntN.{ℤ}
 use lib.ListN.{length, take}
 use lib.Seq.{sets}
-use Rattle.measure.specs.declared.check.Verdict.TheVariants.{Accepted}
-use Rattle.measure.specs.Check.{check_of}
+use Rattle.measure.specs.Check.{accepting, check_of}
 use Rattle.checked.specs.declared.Answer.{Answer}
 use Rattle.checked.specs.Answers.{answer_of}
-use Rattle.linked.specs.declared.Offer.{Offer}
-use Rattle.linked.specs.declared.Offer.TheVariants.{Proposed, Refused}
-use Rattle.linked.specs.Proposal.{Linked, linked_of}
+use Rattle.linked.specs.Proposal.{Offer, proposing, Linked, linked_of}
 use Rattle.linked.specs.Promises.{NoneAccepted}
 use Rattle.linked.proofs.Cases.{passes_counted, pass_written, linked_accepted, more_passes_same, fourteen_exactly}
 use Rattle.bench.specs.Answers.{code_of, answer_words, has_four, Says}
@@ -25,15 +22,17 @@ use Rattle.claims.proofs.Told.{told_of}
 use Rattle.claims.proofs.BenchPromises.{one, told_by, place_by}
 use Rattle.claims.proofs.ListPromises.{front}
 use Rattle.claims.proofs.LinkedCalls.{linked_refused}
+use Rattle.std.specs.Prelude.{Ok, Err}
+use Rattle.refusals.specs.declared.Refusal.TheVariants.{NotReached}
 
 -- ---- what was found
 
 -- the check's answer on what it accepts
-checked_of_lem : (job pack : List ℕ) (loss gap : ℤ) → check_of job pack ≡ Accepted loss gap → (answer : List ℕ) (r : ℕ) (a : List ℕ) → CheckSays job pack answer r a → has_four answer ≡ true
+checked_of_lem : (job pack : List ℕ) (loss gap : ℤ) → check_of job pack ≡ accepting loss gap → (answer : List ℕ) (r : ℕ) (a : List ℕ) → CheckSays job pack answer r a → has_four answer ≡ true
     → (r ≡ 0) × ToldBest job pack 0 a
 checked_of_lem job pack loss gap e answer r a says four =
-    let same : answer_of (check_of job pack) ≡ answer_of (Accepted loss gap) = ap {B = Answer} answer_of e in
-    (says.returns ∙ rw (four, same), told_of job pack a (Accepted loss gap) e refl (says.answers ∙ rw (four, same)))
+    let same : answer_of (check_of job pack) ≡ answer_of (Ok f) = ap {B = Answer} answer_of e in
+    (says.returns ∙ rw (four, same), told_of job pack a (Ok f) e refl (says.answers ∙ rw (four, same)))
 
 pub linked_found : LinkedFound
 linked_found job passes out answer r a x says z = go (linked_of (length out) passes job).offer refl
@@ -45,10 +44,10 @@ linked_found job passes out answer r a x says z = go (linked_of (length out) pas
     t = told_by (linked_small (length out) passes job) says z
 
     go : (o : Offer) → made.offer ≡ o → LinkedTold job passes (r / 32) a (take (r / 32) x)
-    go (Refused number place) e =
+    go (Err r) e =
         let none : number ≡ 0 = ap {B = ℕ} (λ (o : Offer). (offer_of o).number) (sym e) ∙ t.0 in
         absurd (omega (arith, none, linked_refused (length out) passes job e))
-    go (Proposed n count) e =
+    go (Ok o) e =
         let w = pass_written (length out) passes job n count e in
         let c = linked_accepted (length out) passes job n count e in
         let at : r / 32 ≡ n = place_by (linked_small (length out) passes job) says z ∙ ap {B = ℕ} (λ (o : Offer). (offer_of o).place) e in
@@ -73,7 +72,7 @@ more_passes_told job passes more out answer r s a b x y says later some within f
     room : ℕ
     room = length out
 
-    given : has_four answer ≡ true → (linked_of room passes job).offer ≡ Refused 14 passes → ⊥
+    given : has_four answer ≡ true → (linked_of room passes job).offer ≡ Err (NotReached passes) → ⊥
     given e h =
         let code : r ≡ code_of (offer_of (linked_of room passes job).offer) = says.returns ∙ rw e in
         let fourteen : r ≡ 32 * passes + 14 = code ∙ ap {B = ℕ} (λ (o : Offer). code_of (offer_of o)) h in
@@ -99,11 +98,11 @@ fourteen_told job passes out answer r a x says four = (λ h. go (linked_of room 
     told e = code ∙ ap {B = ℕ} (λ (o : Offer). code_of (offer_of o)) e
 
     go : (o : Offer) → (linked_of room passes job).offer ≡ o → r % 32 ≡ 14 → (r ≡ 32 * passes + 14) × NoneAccepted job passes passes
-    go (Proposed n count) e h = absurd (omega (arith, told e, h))
-    go (Refused number place) e h =
+    go (Ok o) e h = absurd (omega (arith, told e, h))
+    go (Err r) e h =
         let low : number ≤ 31 = subst (λ (o : Offer). (offer_of o).number ≤ 31) e (linked_small room passes job).number in
         let is : number ≡ 14 = omega (arith, told e, h, low) in
-        let none = (fourteen_exactly room passes job place).0 (e ∙ ap (λ (k : ℕ). Refused k place) is) in
+        let none = (fourteen_exactly room passes job place).0 (e ∙ ap (λ (k : ℕ). Err r) is) in
         (omega (arith, told e, is, none.place_is), subst (NoneAccepted job passes) none.place_is none)
 
     back : NoneAccepted job passes passes → r ≡ 32 * passes + 14

@@ -10,8 +10,6 @@ use lib.Dec.{eqb}
 use lib.ListN.{length}
 use lib.Seq.{sets}
 use Rattle.numbers.proofs.Clash.{clash}
-use Rattle.packs.specs.declared.Outcome.{Outcome}
-use Rattle.packs.specs.declared.Outcome.TheVariants.{Done, Refused}
 use Rattle.packs.specs.Writing.{Written}
 use Rattle.jobs.specs.Packs.{write_job}
 use Rattle.lists.proofs.Near.{LineNumber}
@@ -27,6 +25,8 @@ use Rattle.claims.specs.BenchPromises.{Among}
 use Rattle.claims.proofs.Unwritten.{Kept, write_kept}
 use Rattle.claims.proofs.Beyond.{Within, room_within, write_within}
 use Rattle.claims.proofs.CallNumbers.{room_number}
+use Rattle.std.specs.Prelude.{Ok, Err}
+use Rattle.packs.specs.Reading.{Outcome}
 
 -- ---- numbers
 abbrev ImportNumber : ℕ → Type 0
@@ -44,8 +44,8 @@ two_to_four number lo hi = go (eqb number 2) (eqb number 3) refl refl
         inr (inr (inl (omega (arith, not-two, not_three))))
 
 from_writer : (o : Outcome) → Own o → ImportNumber (outcome_of o).number
-from_writer (Done n) h = inr (inr (inr (inr (inr (inr (inr (inr (omega arith))))))))
-from_writer (Refused number place) h = two_to_four number h.0 h.1
+from_writer (Ok n) h = inr (inr (inr (inr (inr (inr (inr (inr (omega arith))))))))
+from_writer (Err r) h = two_to_four number h.0 h.1
 
 from_line : (number : ℕ) → LineNumber true number → ImportNumber number
 from_line number (inl e) = inr (inr (inr (inr (inl e))))
@@ -63,7 +63,7 @@ import_number g room text =
 pub export_number : (room first : ℕ) (rates : List ℕ) → Among (2 ∷ 13 ∷ []) 0 (outcome_of (export_of room first rates).outcome).number
 export_number room first rates =
     export_cases (λ (w : Written). Among (2 ∷ 13 ∷ []) 0 (outcome_of w.outcome).number) room first rates (inl refl)
-    (λ h. room_number (2 ∷ 13 ∷ []) 0 room (export_text first rates) (Done (length (export_text first rates))) (inr (inl refl)) (inr (inr (omega arith))))
+    (λ h. room_number (2 ∷ 13 ∷ []) 0 room (export_text first rates) (Ok (length (export_text first rates))) (inr (inl refl)) (inr (inr (omega arith))))
 
 pub rates_number : (room : ℕ) (text : List ℕ) → Among (2 ∷ 13 ∷ 16 ∷ 17 ∷ []) 0 (outcome_of (rates_of room text).outcome).number
 rates_number room text =
@@ -87,7 +87,7 @@ import_kept g room text before =
 pub export_kept : (room first : ℕ) (rates before : List ℕ) → Kept (outcome_of (export_of room first rates).outcome) before (sets before 0 (export_of room first rates).bytes)
 export_kept room first rates before =
     export_cases (λ (w : Written). Kept (outcome_of w.outcome) before (sets before 0 w.bytes)) room first rates (λ n. (refl, refl, refl))
-    (λ h. write_kept room (record { bytes = export_text first rates; outcome = Done (length (export_text first rates)) }) before)
+    (λ h. write_kept room (record { bytes = export_text first rates; outcome = Ok (length (export_text first rates)) }) before)
 
 pub rates_kept : (room : ℕ) (text before : List ℕ) → Kept (outcome_of (rates_of room text).outcome) before (sets before 0 (rates_of room text).values)
 rates_kept room text before =
@@ -103,7 +103,7 @@ import_within g room text =
 pub export_within : (room first : ℕ) (rates : List ℕ) → Within (export_of room first rates).outcome (export_of room first rates).bytes
 export_within room first rates =
     export_cases (λ (w : Written). Within w.outcome w.bytes) room first rates (omega arith)
-    (λ h. room_within room (export_text first rates) (Done (length (export_text first rates))) (λ n e. let q : length (export_text first rates) ≡ n = cc in omega arith))
+    (λ h. room_within room (export_text first rates) (Ok (length (export_text first rates))) (λ n e. let q : length (export_text first rates) ≡ n = cc in omega arith))
 
 pub rates_within : (room : ℕ) (text : List ℕ) → Within (rates_of room text).outcome (rates_of room text).values
 rates_within room text =

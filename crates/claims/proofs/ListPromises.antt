@@ -12,9 +12,7 @@ use lib.ListN.{length, take, drop}
 use lib.Seq.{sets, sets-eq, take_at}
 use Rattle.std.specs.Prelude.{if◌then◌else◌}
 use Rattle.fields.specs.declared.Field.TheVariants.{Society}
-use Rattle.packs.specs.declared.Outcome.{Outcome}
-use Rattle.packs.specs.declared.Outcome.TheVariants.{Done, Refused}
-use Rattle.packs.specs.Reading.{Ran}
+use Rattle.packs.specs.Reading.{Outcome, Ran}
 use Rattle.packs.specs.Writing.{Written, refused, in_room, roomed}
 use Rattle.packs.proofs.Packing.{length_written}
 use Rattle.jobs.specs.Packs.{read_job, write_job}
@@ -30,19 +28,21 @@ use Rattle.bench.specs.Calls.{outcome_of}
 use Rattle.bench.proofs.Listed.{import_small, export_small}
 use Rattle.claims.specs.ListPromises.{ListsImported, TablesReturned}
 use Rattle.claims.proofs.BenchPromises.{told_by, place_by}
+use Rattle.std.specs.Prelude.{Ok, Err}
+use Rattle.refusals.specs.declared.Refusal.TheVariants.{NotAllowed, NoRoom}
 
 -- bytes that were written whole: how many, and that there was room
 record Whole (room : ℕ) (w : Written) : Type 0 where
   n : ℕ
-  done : w.outcome ≡ Done n
+  done : w.outcome ≡ Ok n
   long : length w.bytes ≡ n
   fits : n ≤ room
 
-whole_room : (room : ℕ) (bytes : List ℕ) (n : ℕ) → length bytes ≡ n → (outcome_of (in_room room bytes (Done n)).outcome).number ≡ 0 → Whole room (in_room room bytes (Done n))
+whole_room : (room : ℕ) (bytes : List ℕ) (n : ℕ) → length bytes ≡ n → (outcome_of (in_room room bytes (Ok n)).outcome).number ≡ 0 → Whole room (in_room room bytes (Ok n))
 whole_room room bytes n long = go (ltb room n) refl
   where
-    go : (t : Bool) → ltb room n ≡ t → (outcome_of (if t then refused 13 n else record { bytes = bytes; outcome = Done n }).outcome).number ≡ 0
-        → Whole room (if t then refused 13 n else record { bytes = bytes; outcome = Done n })
+    go : (t : Bool) → ltb room n ≡ t → (outcome_of (if t then refused (NoRoom n) else record { bytes = bytes; outcome = Ok n }).outcome).number ≡ 0
+        → Whole room (if t then refused (NoRoom n) else record { bytes = bytes; outcome = Ok n })
     go true e z = absurd (omega (arith, z))
     go false e z = record { n = n; done = refl; long = long; fits = ltb-false room n e }
 
@@ -64,9 +64,9 @@ import_whole g room text =
     never number (inr (inr e)) z = absurd (omega (arith, e.0, z))
 
     made : (ws : List ℤ) (o : Outcome) → (write_job ws).outcome ≡ o → Own o → (outcome_of (roomed room (write_job ws)).outcome).number ≡ 0 → Whole room (roomed room (write_job ws))
-    made ws (Done n) e h =
+    made ws (Ok n) e h =
         rw (ap (in_room room (write_job ws).bytes) e) (whole_room room (write_job ws).bytes n (omega (arith, length_written ws Society 0 n e)))
-    made ws (Refused number place) e h = rw (ap (in_room room (write_job ws).bytes) e) (λ z. absurd (omega (arith, h.0, z)))
+    made ws (Err r) e h = rw (ap (in_room room (write_job ws).bytes) e) (λ z. absurd (omega (arith, h.0, z)))
 
 pub lists_imported : ListsImported
 lists_imported g text out answer r a x says z =
@@ -97,16 +97,16 @@ export_whole : (room first : ℕ) (rates : List ℕ) → (outcome_of (export_of 
 export_whole room first rates = go (exportable first rates) refl
   where
     go : (t : Bool) → exportable first rates ≡ t
-        → (outcome_of (if t then in_room room (export_text first rates) (Done (length (export_text first rates))) else refused 2 0).outcome).number ≡ 0
+        → (outcome_of (if t then in_room room (export_text first rates) (Ok (length (export_text first rates))) else refused (NotAllowed 0)).outcome).number ≡ 0
         → Out room first rates
     go true e z = fits (ltb room (length (export_text first rates))) refl z
       where
         fits : (u : Bool) → ltb room (length (export_text first rates)) ≡ u
-            → (outcome_of (if u then refused 13 (length (export_text first rates)) else record { bytes = export_text first rates; outcome = Done (length (export_text first rates)) }).outcome).number ≡ 0
+            → (outcome_of (if u then refused (NoRoom (length (export_text first rates))) else record { bytes = export_text first rates; outcome = Ok (length (export_text first rates)) }).outcome).number ≡ 0
             → Out room first rates
         fits true q z = absurd (omega (arith, z))
         fits false q z =
-            let is : export_of room first rates ≡ record { bytes = export_text first rates; outcome = Done (length (export_text first rates)) } = rw (e, q) in
+            let is : export_of room first rates ≡ record { bytes = export_text first rates; outcome = Ok (length (export_text first rates)) } = rw (e, q) in
             record {
               able = e;
               whole = rw is (record { n = length (export_text first rates); done = refl; long = refl; fits = ltb-false room (length (export_text first rates)) q });
@@ -121,7 +121,7 @@ tables_returned rates first out answer r a x says z again other s b y back four 
     let E = export_whole (length out) first rates told.0 in
     let at : r / 32 ≡ E.whole.n = place_by small says z ∙ ap (λ (o : Outcome). (outcome_of o).place) E.whole.done in
     let text : take (r / 32) x ≡ export_text first rates = ap₂ take at told.2 ∙ front (export_of (length out) first rates).bytes out E.whole.long E.whole.fits ∙ E.text in
-    let same : rates_of (length again) (take (r / 32) x) ≡ record { values = rates; outcome = Done (length rates) } =
+    let same : rates_of (length again) (take (r / 32) x) ≡ record { values = rates; outcome = Ok (length rates) } =
     ap (rates_of (length again)) text ∙ exports_read_back (length again) first rates E.able room in (
       back.returns ∙ rw (four, ap (λ (q : Rated). q.outcome) same) (omega arith),
       ap (take (length rates)) (back.leaves ∙ rw (four, ap (λ (q : Rated). q.values) same)) ∙ front rates again refl room,

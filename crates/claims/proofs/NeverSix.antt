@@ -9,15 +9,11 @@ use lib.Dec.{eqb, leb}
 use lib.IntN.{nat_abs}
 use lib.ListN.{length}
 use Rattle.std.specs.Prelude.{if◌then◌else◌}
-use Rattle.packs.specs.declared.Outcome.{Outcome}
-use Rattle.packs.specs.declared.Outcome.TheVariants.{Done, Refused as Refuses}
-use Rattle.packs.specs.Reading.{Ran}
+use Rattle.packs.specs.Reading.{Outcome, Ran}
 use Rattle.jobs.specs.Packs.{job_in, read_job}
 use Rattle.packs.proofs.Near.{Near}
 use Rattle.jobs.proofs.Near.{job_read_near}
-use Rattle.measure.specs.declared.check.Verdict.{Verdict}
-use Rattle.measure.specs.declared.check.Verdict.TheVariants.{Accepted, Refused}
-use Rattle.measure.specs.Check.{check_of}
+use Rattle.measure.specs.Check.{Verdict, accepting, check_of}
 use Rattle.checked.specs.Answers.{Reply, refusal, accepted}
 use Rattle.checked.specs.Checked.{checked_of}
 use Rattle.checked.proofs.Sound.{accepted_read}
@@ -31,6 +27,8 @@ use Rattle.claims.proofs.Accepted.{proposal_refused_exactly}
 use Rattle.claims.proofs.LastKept.{fetch_said}
 use Rattle.claims.proofs.AsChecked.{same_proposal, fetched_by_counts}
 use Rattle.claims.proofs.Fetched.{Came, came, fetched_gives}
+use Rattle.std.specs.Prelude.{Ok, Err}
+use Rattle.refusals.specs.declared.Refusal.TheVariants.{BadProposal}
 
 abbrev NotSix : Reply → Type 0
 NotSix r = r.answer.number ≡ 6 → ⊥
@@ -38,22 +36,22 @@ NotSix r = r.answer.number ≡ 6 → ⊥
 -- ---- a kept table against the job presented
 module _ (job : List ℕ) (reads : Reads (read_job job).outcome) (room : ℕ) (old proposal : List ℕ) (yes : accepted (check_of old proposal) ≡ true) where
   -- with the same counts the proposal reads
-  read_again : (job_in job).cells ≡ (job_in old).cells → (job_in job).links ≡ (job_in old).links → (place : ℕ) → check_of job proposal ≡ Refused 6 place → ⊥
+  read_again : (job_in job).cells ≡ (job_in old).cells → (job_in job).links ≡ (job_in old).links → (place : ℕ) → check_of job proposal ≡ Err (BadProposal place) → ⊥
   read_again ec el place e =
       let refused = ((proposal_refused_exactly job proposal place).0 e).1 in
       let done = ap {B = Outcome} (λ (r : Ran). r.outcome) (same_proposal old proposal yes job reads ec el) ∙ (accepted_read old proposal yes).proposal_done.1 in
       clash (sym done ∙ refused)
     where
-      clash : {k number place : ℕ} → Done k ≡ Refuses number place → ⊥
+      clash : {k number place : ℕ} → Ok k ≡ Err r → ⊥
       clash c = let z : ◌≡◌ {A = ℕ} 0 1 = cc in omega (arith, z)
 
-  verdict_not : (vs : List ℕ) (v : Verdict) → ((place : ℕ) → v ≡ Refused 6 place → ⊥) → NotSix (handed room vs v)
-  verdict_not vs (Accepted F G) h = go (leb (length vs) room)
+  verdict_not : (vs : List ℕ) (v : Verdict) → ((place : ℕ) → v ≡ Err (BadProposal place) → ⊥) → NotSix (handed room vs v)
+  verdict_not vs (Ok f) h = go (leb (length vs) room)
     where
       go : (b : Bool) → NotSix (cond b (record { answer = record { number = 0; place = length vs; loss = nat_abs F; gap = nat_abs G }; values = vs }) (refusal 13 (length vs)))
       go true n = omega (arith, n)
       go false n = omega (arith, n)
-  verdict_not vs (Refused number place) h = λ n. h place (ap (λ (k : ℕ). Refused k place) n)
+  verdict_not vs (Err r) h = λ n. h place (ap (λ (k : ℕ). Err r) n)
 
   by_counts : (b : Bool) → same_counts (job_in job) (job_in old).cells (job_in old).links ≡ b
       → NotSix (if b then handed room (checked_of old proposal).values (check_of job proposal) else refusal 12 0)
@@ -78,9 +76,9 @@ never_six_of counts shelf from calls job room n =
     ts = held counts calls (job_in job).society
 
     go : (o : Outcome) → (read_job job).outcome ≡ o → Near 20920 o → NotSix (on_job o (fetched (job_in job) room ts))
-    go (Done k) e h m =
+    go (Ok k) e h m =
         let g = fetched_gives (Came calls (job_in job).society) (job_in job) room ts (came counts calls (job_in job).society) (λ z. omega (arith, m, z)) in
         let t = g.holds in
         let is : fetched (job_in job) room ts ≡ table_for (job_in job) room (table_from (checked_of t.job t.proposal)) = g.is ∙ ap {B = Reply} (table_for (job_in job) room) t.is in
         table_not job (k, e) room t.job t.proposal t.yes (sym (ap (λ (x : Reply). x.answer.number) is) ∙ m)
-    go (Refuses number place) e h m = omega (arith, m, h.1)
+    go (Err r) e h m = omega (arith, m, h.1)

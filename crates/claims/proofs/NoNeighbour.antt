@@ -11,17 +11,13 @@ use lib.Dec.{eqb, leb}
 use lib.IntN.{ℤ, nat_abs}
 use lib.ListN.{length, replicate}
 use borrow.Author.Tests.{leb-true, eqb-true, eqb-false, ne_eqb, not-false, not-true}
-use Rattle.packs.specs.declared.Outcome.{Outcome}
-use Rattle.packs.specs.declared.Outcome.TheVariants.{Done, Refused as Refuses}
 use Rattle.jobs.specs.Words.{job_of}
 use Rattle.jobs.specs.Packs.{read_job}
 use Rattle.jobs.proofs.Readings.{read_jobs_allowed}
 use Rattle.slots.specs.Slots.{slot_words, kept_in, forgot_in}
-use Rattle.counts.specs.declared.Row.{Row}
-use Rattle.counts.specs.declared.Row.TheVariants.{Right}
-use Rattle.counts.specs.declared.Tested.{Tested}
-use Rattle.counts.specs.declared.Tested.TheVariants.{Passed, Refused as Barred}
-use Rattle.counts.specs.Counts.{shelf_words, count_in, test_row, test_shelf, row_in, Ready, cleared}
+use Rattle.std.specs.Prelude.{Ok, Err}
+use Rattle.refusals.specs.declared.Refusal.{Refusal}
+use Rattle.counts.specs.Counts.{Tested, passed, shelf_words, count_in, test_row, test_shelf, row_in, Ready, cleared}
 use Rattle.counts.proofs.Tests.{right_eight, shelf_right, passed_both, passed_ready, ready_passed, tested_alike}
 use Rattle.counts.proofs.Cleared.{cleared_row, cleared_length, cleared_span}
 use Rattle.checked.specs.Answers.{Reply, refusal, accepted}
@@ -36,6 +32,8 @@ use Rattle.shelf.proofs.Sound.{Sound, accepted_sound, accepted_named}
 use Rattle.claims.specs.Heard.{heard, without, sent, only_own}
 use Rattle.claims.specs.LastKept.{ClearedWith}
 use Rattle.claims.proofs.Steps.{keep_step, forget_step, kept_same, forgot_same, laid_length, laid_row}
+use Rattle.std.specs.Prelude.{Option, Ok, Err}
+use Rattle.packs.specs.Reading.{Outcome}
 
 -- ---- a call names this society, or another, or none
 not_other : (s : ℕ) (o : Option ℕ) → is s o ≡ true → is_not s o ≡ false
@@ -60,7 +58,7 @@ named_this s job proposal n e =
     eqb-true t s (not-false (eqb t s) (sym (ap (is_not s) (accepted_named job proposal e)) ∙ n))
 
 -- ---- a call that does not name this society leaves its span
-module _ (row : List ℕ) (right : test_row row ≡ Right) (s : ℕ) (m : s ≤ 7) (xs : List ℕ) (len : length xs ≡ shelf_words) where
+module _ (row : List ℕ) (right : test_row row ≡ passed) (s : ℕ) (m : s ≤ 7) (xs : List ℕ) (len : length xs ≡ shelf_words) where
   abbrev l : Layout
   l = rowed row
 
@@ -82,7 +80,7 @@ module _ (row : List ℕ) (right : test_row row ≡ Right) (s : ℕ) (m : s ≤ 
   laid_stays (forget t job) n = other l ok t (forget_step l ok t job) xs len (forgot_same l ok t job xs len) s m (λ q. eqb-false t s n (sym q))
 
 -- ---- one that names no other society does to its span what that span and its count decide, wherever it starts
-module _ (rx ry : List ℕ) (ex : test_row rx ≡ Right) (ey : test_row ry ≡ Right) (s : ℕ) (xs ys : List ℕ) (lx : length xs ≡ shelf_words) (ly : length ys ≡ shelf_words)
+module _ (rx ry : List ℕ) (ex : test_row rx ≡ passed) (ey : test_row ry ≡ passed) (s : ℕ) (xs ys : List ℕ) (lx : length xs ≡ shelf_words) (ly : length ys ≡ shelf_words)
     (ec : count_in rx s ≡ count_in ry s) (a : s ≤ 7 → span_of (rowed rx) s xs ≡ span_of (rowed ry) s ys) where
   abbrev lx' : Layout
   lx' = rowed rx
@@ -148,20 +146,20 @@ module _ (rx ry : List ℕ) (ex : test_row rx ≡ Right) (ey : test_row ry ≡ R
       named_own (word ∷ words) e = eqb-true (nat_abs word) s e
 
       go : (o : Outcome) → (read_job job).outcome ≡ o → on_job o (fetch_from lx' (job_of (read_job job).words) room xs) ≡ on_job o (fetch_from ly' (job_of (read_job job).words) room ys)
-      go (Done k) e =
+      go (Ok k) e =
           let j = job_of (read_job job).words in
           let q = named_own (read_job job).words n in
           ap₂ {C = Reply} (λ (c : ℕ) (x : List ℕ). fetch_in slot_words c j room x) (count_same j.society q) (spans j.society q (read_jobs_allowed job k e).society)
-      go (Refuses number place) e = refl
+      go (Err r) e = refl
   laid_told (forget t job) n = from_own t (λ c x. forget_reply slot_words c job x) (eqb-true t s n)
 
 -- ---- on any words: the test of the shelf refuses it, or it is ready
-by_test : (xs : List ℕ) (P : Type 0) → (Ready xs → P) → ((number place : ℕ) → test_shelf (row_in xs) xs ≡ Barred number place → P) → P
-by_test xs P r b = go (test_shelf (row_in xs) xs) refl
+by_test : (xs : List ℕ) (P : Type 0) → (Ready xs → P) → ((r : Refusal) → test_shelf (row_in xs) xs ≡ Err r → P) → P
+by_test xs P k b = go (test_shelf (row_in xs) xs) refl
   where
     go : (o : Tested) → test_shelf (row_in xs) xs ≡ o → P
-    go Passed e = r (passed_ready xs e)
-    go (Barred number place) e = b number place e
+    go (Ok u) e = k (passed_ready xs e)
+    go (Err r) e = b r e
 
 after_ready : (xs : List ℕ) → Ready xs → (call : Own) → laid_after (layout_in xs) xs call ≡ after xs (own call)
 after_ready xs r call = after_passed xs call (ready_passed xs r)
@@ -171,13 +169,13 @@ pub row_of_lem : (call : Own) (xs : List ℕ) → row_in (after xs (own call)) �
 row_of_lem call xs =
     by_test xs (row_in (after xs (own call)) ≡ row_in xs)
     (λ r. ap row_in (sym (after_ready xs r call)) ∙ laid_row (row_in xs) r.row call xs r.long)
-    (λ number place e. ap row_in (sym (after_refused xs call number place e)))
+    (λ r e. ap row_in (sym (after_refused xs call r e)))
 
 length_of : (call : Own) (xs : List ℕ) → length (after xs (own call)) ≡ length xs
 length_of call xs =
     by_test xs (length (after xs (own call)) ≡ length xs)
     (λ r. ap length (sym (after_ready xs r call)) ∙ laid_length (layout_in xs) (rowed_lawful (row_in xs) r.row) call xs r.long ∙ sym r.long)
-    (λ number place e. ap length (sym (after_refused xs call number place e)))
+    (λ r e. ap length (sym (after_refused xs call r e)))
 
 -- the span by the row as it was
 span_of_lem : (s : ℕ) (call : Own) (xs : List ℕ) → span_in s (after xs (own call)) ≡ span_of (layout_in xs) s (after xs (own call))
@@ -188,7 +186,7 @@ stays : (s : ℕ) → s ≤ 7 → (call : Own) → is s (named_by call) ≡ fals
 stays s m call n xs =
     span_of_lem s call xs ∙ by_test xs (span_of (layout_in xs) s (after xs (own call)) ≡ span_in s xs)
     (λ r. ap (span_of (layout_in xs) s) (sym (after_ready xs r call)) ∙ laid_stays (row_in xs) r.row s m xs r.long call n)
-    (λ number place e. ap (span_of (layout_in xs) s) (sym (after_refused xs call number place e)))
+    (λ r e. ap (span_of (layout_in xs) s) (sym (after_refused xs call r e)))
 
 pub others_stay : (society : ℕ) (call : Own) → names society (own call) ≡ true → (xs : List ℕ) (neighbour : ℕ) → neighbour ≤ 7 → (neighbour ≡ society → ⊥)
     → span_in neighbour (after xs (own call)) ≡ span_in neighbour xs
@@ -217,13 +215,13 @@ record Fresh (s : ℕ) (counts shelf : List ℕ) : Type 0 where
   its_row : row_in shelf ≡ row_in counts
   span : s ≤ 7 → span_in s shelf ≡ replicate (slot_words * count_in (row_in counts) s) 0
 
-fresh_cleared : (s : ℕ) (counts old : List ℕ) → length old ≡ shelf_words → test_row (row_in counts) ≡ Right → Fresh s counts (cleared (row_in counts) old)
+fresh_cleared : (s : ℕ) (counts old : List ℕ) → length old ≡ shelf_words → test_row (row_in counts) ≡ passed → Fresh s counts (cleared (row_in counts) old)
 fresh_cleared s counts old len e =
     let row = row_in counts in
     let eight = right_eight counts e in
     let front = cleared_row row eight e old len in
     record {
-      ready = record { long = cleared_length row eight e old len; row = ap {B = Row} test_row front ∙ e };
+      ready = record { long = cleared_length row eight e old len; row = ap {B = Tested} test_row front ∙ e };
       its_row = front;
       span = λ m. ap (λ (r : List ℕ). span_of (rowed r) s (cleared row old)) front ∙ cleared_span row eight e old len s (omega arith);
     }
@@ -252,7 +250,7 @@ module _ (s : ℕ) (xs ys : List ℕ) (k : Alike s xs ys) where
   own_span call n m =
       by_test xs (span_in s (after xs (own call)) ≡ span_in s (after ys (own call)))
       (λ r. span_ready s xs ys r (also_ready r) same_count k.span call n m)
-      (λ number place e. ap (span_in s) (sym (after_refused xs call number place e)) ∙ k.span m ∙ ap (span_in s) (after_refused ys call number place (tested e)))
+      (λ r e. ap (span_in s) (sym (after_refused xs call r e)) ∙ k.span m ∙ ap (span_in s) (after_refused ys call r (tested e)))
 
   own_alike : (call : Own) → is_not s (named_by call) ≡ false → Alike s (after xs (own call)) (after ys (own call))
   own_alike call n = record {
@@ -265,7 +263,7 @@ module _ (s : ℕ) (xs ys : List ℕ) (k : Alike s xs ys) where
   own_told call n =
       by_test xs (said xs (own call) ≡ said ys (own call))
       (λ r. told_ready s xs ys r (also_ready r) same_count k.span call n)
-      (λ number place e. sym (said_refused xs call number place e) ∙ said_refused ys call number place (tested e))
+      (λ r e. sym (said_refused xs call r e) ∙ said_refused ys call r (tested e))
 
   -- clearing
   clear_alike : (counts : List ℕ) → Alike s (after xs (clear counts)) (after ys (clear counts))
@@ -278,7 +276,7 @@ module _ (s : ℕ) (xs ys : List ℕ) (k : Alike s xs ys) where
       also e = sym (tested_alike row xs ys k.long) ∙ e
 
       go : (o : Tested) → test_shelf row xs ≡ o → Alike s (after xs (clear counts)) (after ys (clear counts))
-      go Passed e =
+      go (Ok u) e =
           let fx = fresh_cleared s counts xs (passed_both row xs e).0 (passed_both row xs e).1 in
           let fy = fresh_cleared s counts ys (passed_both row ys (also e)).0 (passed_both row xs e).1 in
           subst (λ (zs : List ℕ). Alike s zs (after ys (clear counts))) (clear_passed xs counts e).1
@@ -287,9 +285,9 @@ module _ (s : ℕ) (xs ys : List ℕ) (k : Alike s xs ys) where
             row = fx.its_row ∙ sym fy.its_row;
             span = λ h. fx.span h ∙ sym (fy.span h);
           }))
-      go (Barred number place) e =
-          subst (λ (zs : List ℕ). Alike s zs (after ys (clear counts))) (clear_refused xs counts number place e).1
-          (subst (λ (zs : List ℕ). Alike s xs zs) (clear_refused ys counts number place (also e)).1 k)
+      go (Err r) e =
+          subst (λ (zs : List ℕ). Alike s zs (after ys (clear counts))) (clear_refused xs counts r e).1
+          (subst (λ (zs : List ℕ). Alike s xs zs) (clear_refused ys counts r (also e)).1 k)
 
   pub stays_alike : (call : Call) → names_other s call ≡ false → Alike s (after xs call) (after ys call)
   stays_alike (own call) n = own_alike call n
@@ -335,7 +333,7 @@ pub record Near (s : ℕ) (xs ys : List ℕ) : Type 0 where
   pub span : span_in s xs ≡ span_in s ys
 
 ready_after : (call : Own) (xs : List ℕ) → Ready xs → Ready (after xs (own call))
-ready_after call xs r = record { long = length_of call xs ∙ r.long; row = ap {B = Row} test_row (row_of_lem call xs) ∙ r.row }
+ready_after call xs r = record { long = length_of call xs ∙ r.long; row = ap {B = Tested} test_row (row_of_lem call xs) ∙ r.row }
 
 count_after : (s : ℕ) (call : Own) (xs : List ℕ) → count_in (row_in (after xs (own call))) s ≡ count_in (row_in xs) s
 count_after s call xs = ap (λ (r : List ℕ). count_in r s) (row_of_lem call xs)

@@ -7,34 +7,32 @@ use lib.Dec.{leb}
 use lib.IntN.{nat_abs}
 use lib.ListN.{length, drop}
 use borrow.Rule.Slice.PartMut.{put_mid, put_same}
-use Rattle.packs.specs.declared.Outcome.{Outcome}
-use Rattle.packs.specs.declared.Outcome.TheVariants.{Done, Refused as Unread}
 use Rattle.jobs.specs.Job.{Job}
 use Rattle.jobs.specs.Words.{job_of}
 use Rattle.jobs.specs.Packs.{read_job}
-use Rattle.measure.specs.declared.check.Verdict.{Verdict}
-use Rattle.measure.specs.declared.check.Verdict.TheVariants.{Accepted, Refused as Refuses}
-use Rattle.slots.specs.declared.Slot.{Slot}
-use Rattle.slots.specs.declared.Slot.TheVariants.{At, Nowhere}
+use Rattle.std.specs.Prelude.{Option, Some, None}
 use Rattle.slots.specs.Slots.{lowest, has_job, at_slot, dropped_slot, forgot_in}
 use Rattle.checked.specs.Answers.{Reply, refusal, done, accepted, answer_of}
 use Rattle.shelf.specs.Shelf.{forget_reply, Layout, size_of, slot_from, span_of, on_part, on_society, from_society, kept_on, kept_shelf, keep_reply, fetch_from, fetch_reply, forgot_shelf, forgot_reply}
 use Rattle.shelf.specs.Fetched.{kept_verdict, handed, same_counts, fetch_table, kept_cells, kept_links, kept_values, kept_multipliers, fetch_at, fetch_in, on_job}
 use Rattle.checked.specs.Checked.{Checked, checked_of}
-use Rattle.counts.specs.declared.Row.TheVariants.{Wrong}
-use Rattle.counts.specs.declared.Tested.{Tested}
-use Rattle.counts.specs.declared.Tested.TheVariants.{Passed, Refused as Barred}
-use Rattle.counts.specs.Counts.{shelf_words, test_row, test_shelf, on_tested, row_in, cleared}
+use Rattle.std.specs.Prelude.{Ok, Err}
+use Rattle.refusals.specs.declared.Refusal.TheVariants.{CountsNotAllowed}
+use Rattle.counts.specs.Counts.{Tested, shelf_words, test_row, test_shelf, on_tested, row_in, cleared}
 use Rattle.counts.proofs.Tests.{shelf_wrong}
 use Rattle.shelf.specs.Shelf.{layout_in}
 use Rattle.shelf.specs.Calls.{Own, Call, keep, fetch, forget, own, clear, laid_after, laid_said, after, said}
 use Rattle.shelf.proofs.Answered.{said_refused, after_refused, clear_refused}
 use Rattle.claims.specs.ShelfPromises.{Refused, GivesNothing}
+use Rattle.std.specs.Prelude.{Ok, Err}
+use Rattle.packs.specs.Reading.{Outcome}
+use Rattle.measure.specs.Check.{accepting}
+use Rattle.measure.specs.Check.{Verdict}
 
 -- ---- a span's calls
 out_nothing : (room : ℕ) (v : List ℕ) (w : Verdict) → Refused (handed room v w) → GivesNothing (handed room v w)
-out_nothing room v (Refuses number place) n = (refl, refl, refl)
-out_nothing room v (Accepted F G) n = go (leb (length v) room) n
+out_nothing room v (Err r) n = (refl, refl, refl)
+out_nothing room v (Ok f) n = go (leb (length v) room) n
   where
     given : Bool → Reply
     given b = cond b (record { answer = record { number = 0; place = length v; loss = nat_abs F; gap = nat_abs G }; values = v }) (refusal 13 (length v))
@@ -55,30 +53,30 @@ fetch_nothing : (w c : ℕ) (j : Job) (room : ℕ) (s : List ℕ) → Refused (f
 unfolding fetch_in fetch_at
 fetch_nothing w c j room s n = go (lowest (has_job j.number) w c s) n
   where
-    go : (o : Slot) → Refused (at_slot o (λ p. fetch_at j room (drop (w * p) s)) (refusal 12 0)) → GivesNothing (at_slot o (λ p. fetch_at j room (drop (w * p) s)) (refusal 12 0))
-    go (At p) m = let x = drop (w * p) s in table_nothing j room (kept_cells x) (kept_links x) (kept_values x) (kept_multipliers x) m
-    go Nowhere m = (refl, refl, refl)
+    go : (o : Option ℕ) → Refused (at_slot o (λ p. fetch_at j room (drop (w * p) s)) (refusal 12 0)) → GivesNothing (at_slot o (λ p. fetch_at j room (drop (w * p) s)) (refusal 12 0))
+    go (Some p) m = let x = drop (w * p) s in table_nothing j room (kept_cells x) (kept_links x) (kept_values x) (kept_multipliers x) m
+    go None m = (refl, refl, refl)
 
 unread_nothing : (o : Outcome) (r : Reply) → (Refused r → GivesNothing r) → Refused (on_job o r) → GivesNothing (on_job o r)
-unread_nothing (Done k) r h n = h n
-unread_nothing (Unread number place) r h n = (refl, refl, refl)
+unread_nothing (Ok k) r h n = h n
+unread_nothing (Err r) r h n = (refl, refl, refl)
 
 module _ (w c job : ℕ) (s : List ℕ) where
   forget_nothing : Refused (forget_reply w c job s) → forgot_in w c job s ≡ s
   unfolding forget_reply forgot_in
   forget_nothing n = go (lowest (has_job job) w c s) n
     where
-      go : (o : Slot) → Refused (at_slot o (λ p. done) (refusal 12 0)) → at_slot o (λ p. dropped_slot w p s) s ≡ s
-      go (At p) m = absurd (m refl)
-      go Nowhere m = refl
+      go : (o : Option ℕ) → Refused (at_slot o (λ p. done) (refusal 12 0)) → at_slot o (λ p. dropped_slot w p s) s ≡ s
+      go (Some p) m = absurd (m refl)
+      go None m = refl
 
   forget_empty : GivesNothing (forget_reply w c job s)
   unfolding forget_reply
   forget_empty = go (lowest (has_job job) w c s)
     where
-      go : (o : Slot) → GivesNothing (at_slot o (λ p. done) (refusal 12 0))
-      go (At p) = (refl, refl, refl)
-      go Nowhere = (refl, refl, refl)
+      go : (o : Option ℕ) → GivesNothing (at_slot o (λ p. done) (refusal 12 0))
+      go (Some p) = (refl, refl, refl)
+      go None = (refl, refl, refl)
 
 -- ---- the calls on a shelf that has all its words
 module _ (l : Layout) (xs : List ℕ) where
@@ -109,8 +107,8 @@ module _ (l : Layout) (xs : List ℕ) where
   kept_nothing o n = go o.verdict n
     where
       go : (v : Verdict) → Refused (replied_by v) → (kept_by o v ≡ xs) × GivesNothing (replied_by v)
-      go (Accepted F G) m = absurd (m refl)
-      go (Refuses number place) m = (refl, (refl, refl, refl))
+      go (Ok f) m = absurd (m refl)
+      go (Err r) m = (refl, (refl, refl, refl))
 
   laid_nothing : (call : Own) → Refused (laid_said l xs call) → (laid_after l xs call ≡ xs) × GivesNothing (laid_said l xs call)
   unfolding fetch_reply forgot_shelf forgot_reply
@@ -126,8 +124,8 @@ module _ (l : Layout) (xs : List ℕ) where
 -- ---- on any words, by the test of the shelf
 tested_nothing : (o : Tested) (r : Reply) (xs ys : List ℕ) → (Refused r → (ys ≡ xs) × GivesNothing r) → Refused (on_tested o r refusal)
     → (on_tested o ys (λ number place. xs) ≡ xs) × GivesNothing (on_tested o r refusal)
-tested_nothing Passed r xs ys k n = k n
-tested_nothing (Barred number place) r xs ys k n = (refl, (refl, refl, refl))
+tested_nothing (Ok u) r xs ys k n = k n
+tested_nothing (Err x) r xs ys k n = (refl, (refl, refl, refl))
 
 pub refused_of : (xs : List ℕ) (call : Call) → Refused (said xs call) → (after xs call ≡ xs) × GivesNothing (said xs call)
 refused_of xs (own call) n = tested_nothing (test_shelf (row_in xs) xs) (laid_said (layout_in xs) xs call) xs (laid_after (layout_in xs) xs call) (laid_nothing (layout_in xs) xs call) n
@@ -135,9 +133,9 @@ refused_of xs (clear counts) n = tested_nothing (test_shelf (row_in counts) xs) 
 
 -- a row that is wrong
 pub wrong_refused : (shelf : List ℕ) → length shelf ≡ shelf_words → (place : ℕ)
-    → (test_row (row_in shelf) ≡ Wrong place → (call : Own) → (said shelf (own call) ≡ refusal 22 place) × (after shelf (own call) ≡ shelf))
-    × ((counts : List ℕ) → test_row (row_in counts) ≡ Wrong place → (said shelf (clear counts) ≡ refusal 22 place) × (after shelf (clear counts) ≡ shelf))
+    → (test_row (row_in shelf) ≡ Err (CountsNotAllowed place) → (call : Own) → (said shelf (own call) ≡ refusal 22 place) × (after shelf (own call) ≡ shelf))
+    × ((counts : List ℕ) → test_row (row_in counts) ≡ Err (CountsNotAllowed place) → (said shelf (clear counts) ≡ refusal 22 place) × (after shelf (clear counts) ≡ shelf))
 wrong_refused shelf len place = (
-  λ e call. let t = shelf_wrong (row_in shelf) shelf len place e in (sym (said_refused shelf call 22 place t), sym (after_refused shelf call 22 place t)),
-  λ counts e. let t = clear_refused shelf counts 22 place (shelf_wrong (row_in counts) shelf len place e) in (sym t.0, sym t.1),
+  λ e call. let t = shelf_wrong (row_in shelf) shelf len (CountsNotAllowed place) e in (sym (said_refused shelf call (CountsNotAllowed place) t), sym (after_refused shelf call (CountsNotAllowed place) t)),
+  λ counts e. let t = clear_refused shelf counts (CountsNotAllowed place) (shelf_wrong (row_in counts) shelf len (CountsNotAllowed place) e) in (sym t.0, sym t.1),
 )

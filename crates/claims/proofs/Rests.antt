@@ -8,8 +8,7 @@ use lib.Dec.{leb}
 use lib.ListN.{length, take, drop, length-drop}
 use lib.Seq.{take_all}
 use borrow.Author.Tests.{leb-true}
-use Rattle.counts.specs.declared.Row.TheVariants.{Right}
-use Rattle.counts.specs.Counts.{societies, shelf_words, count_in, test_row, row_in, start_in, rest_of, Ready}
+use Rattle.counts.specs.Counts.{passed, societies, shelf_words, count_in, test_row, row_in, start_in, rest_of, Ready}
 use Rattle.counts.proofs.Below.{below_apart}
 use Rattle.counts.proofs.Tests.{right_eight, shelf_right, ready_passed}
 use Rattle.counts.proofs.Cleared.{cleared_rest}
@@ -28,7 +27,7 @@ use Rattle.claims.proofs.Steps.{keep_step, forget_step, kept_same, forgot_same}
 all_of : (b : ℕ) (xs : List ℕ) → length xs ≡ shelf_words → take shelf_words (drop b xs) ≡ drop b xs
 all_of b xs len = take_all shelf_words (drop b xs) (rw length-drop (omega arith))
 
-module _ (row : List ℕ) (right : test_row row ≡ Right) where
+module _ (row : List ℕ) (right : test_row row ≡ passed) where
   abbrev l : Layout
   l = rowed row
 
@@ -75,5 +74,5 @@ module _ (row : List ℕ) (right : test_row row ≡ Right) where
 pub rest_of_lem : (shelf : List ℕ) → Ready shelf → (call : Own) → rest_of (row_in shelf) (after shelf (own call)) ≡ rest_of (row_in shelf) shelf
 rest_of_lem shelf r call = ap (rest_of (row_in shelf)) (sym (after_passed shelf call (ready_passed shelf r))) ∙ laid_rest (row_in shelf) r.row call shelf r.long
 
-pub rest_cleared : (shelf counts : List ℕ) → length shelf ≡ shelf_words → test_row (row_in counts) ≡ Right → rest_of (row_in counts) (after shelf (clear counts)) ≡ rest_of (row_in counts) shelf
+pub rest_cleared : (shelf counts : List ℕ) → length shelf ≡ shelf_words → test_row (row_in counts) ≡ passed → rest_of (row_in counts) (after shelf (clear counts)) ≡ rest_of (row_in counts) shelf
 rest_cleared shelf counts len e = ap (rest_of (row_in counts)) (sym (clear_passed shelf counts (shelf_right (row_in counts) shelf len e)).1) ∙ cleared_rest (row_in counts) (right_eight counts e) e shelf len

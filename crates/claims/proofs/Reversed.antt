@@ -7,9 +7,7 @@ use lib.IntN.{ℤ}
 use lib.ListN.{length}
 use Rattle.whole.specs.Turned.{grid_map}
 use Rattle.whole.proofs.Turned.{Involution}
-use Rattle.packs.specs.declared.Outcome.{Outcome}
-use Rattle.packs.specs.declared.Outcome.TheVariants.{Done}
-use Rattle.packs.specs.Reading.{Ran}
+use Rattle.packs.specs.Reading.{Outcome, Ran}
 use Rattle.jobs.specs.Words.{cells_of, rows_of, columns_of, links_of, job_of}
 use Rattle.jobs.specs.Allowed.{Allowed, Laid, Proposed}
 use Rattle.jobs.specs.Packs.{job_in, read_job, write_job, read_proposal, write_proposal}
@@ -27,6 +25,7 @@ use Rattle.claims.specs.Read.{proposal_in, Reads, BothRead}
 use Rattle.claims.specs.Reversed.{Way, row_from, column_from, cell_from, reversed_job, reversed_proposal}
 use Rattle.claims.specs.ReversedPromises.{TableTurned}
 use Rattle.claims.proofs.Ways.{rows_turned, columns_turned, cells_turned}
+use Rattle.std.specs.Prelude.{Ok}
 
 -- ---- a job pack
 
@@ -57,7 +56,7 @@ module _ (job : List ℕ) (reads : Reads (read_job job).outcome) where
     allowed_too =
         turned_allowed words laid allowed (row_from way (rows_of words)) (column_from way (columns_of words)) (rows_turned way (rows_of words)) (columns_turned way (columns_of words))
 
-    job_back : read_job (reversed_job way job) ≡ record { words = turned; outcome = Done (length turned) }
+    job_back : read_job (reversed_job way job) ≡ record { words = turned; outcome = Ok (length turned) }
     job_back =
         let w = allowed_jobs_written turned (turned_laid words laid allowed τ involution) allowed_too in
         jobs_read_back turned (words_fit words laid allowed τ involution) w.0 w.1
@@ -65,10 +64,10 @@ module _ (job : List ℕ) (reads : Reads (read_job job).outcome) where
     pub words_back : (read_job (reversed_job way job)).words ≡ turned
     words_back = ap (λ (x : Ran). x.words) job_back
 
-    pub job_reads : (read_job (reversed_job way job)).outcome ≡ Done reads.0
+    pub job_reads : (read_job (reversed_job way job)).outcome ≡ Ok reads.0
     job_reads =
         ap (λ (x : Ran). x.outcome) job_back
-        ∙ ap {B = Outcome} Done (same_length words laid allowed τ involution ∙ sym (read_words_counted job reads.0 reads.1))
+        ∙ ap {B = Outcome} Ok (same_length words laid allowed τ involution ∙ sym (read_words_counted job reads.0 reads.1))
 
     pub about_back : TurnedAbout τ (job_in job) (job_in (reversed_job way job))
     about_back = subst (λ (w : List ℤ). TurnedAbout τ (job_in job) (job_of w)) (sym words_back) about
@@ -96,7 +95,7 @@ module _ (job : List ℕ) (reads : Reads (read_job job).outcome) where
       proposed : Proposed (cells_of words) (links_of words) numbers
       proposed = read_proposals_proposed (cells_of words) (links_of words) proposal q.0 q.1
 
-      proposal_back : proposal_in (reversed_job way job) (reversed_proposal way job proposal) ≡ record { words = others; outcome = Done (length others) }
+      proposal_back : proposal_in (reversed_job way job) (reversed_proposal way job proposal) ≡ record { words = others; outcome = Ok (length others) }
       proposal_back =
           ap₂ (λ (c l : ℕ). read_proposal c l (reversed_proposal way job proposal)) about_back.cells about_back.links
           ∙ proposed_read_back (cells_of words) (links_of words) others (turned_proposed τ (cells_of words) numbers proposed involution)

@@ -11,9 +11,7 @@ use Rattle.numbers.specs.Plain.{number_in, bytes_in}
 use Rattle.std.specs.Prelude.{if◌then◌else◌}
 use Rattle.fields.specs.Table.{step_of, values_from}
 use Rattle.whole.specs.Sum.{sum}
-use Rattle.packs.specs.declared.Outcome.{Outcome}
-use Rattle.packs.specs.declared.Outcome.TheVariants.{Done, Refused as Refuses}
-use Rattle.packs.specs.Reading.{Ran, run_from, read_from}
+use Rattle.packs.specs.Reading.{Outcome, Ran, run_from, read_from}
 use Rattle.packs.specs.Writing.{Written, write_from}
 use Rattle.packs.proofs.Trips.{writing_back}
 use Rattle.jobs.specs.Job.{Job}
@@ -25,13 +23,11 @@ use Rattle.jobs.proofs.Trips.{jobs_written_back}
 use Rattle.turned.specs.Words.{turned_words}
 use Rattle.turned.proofs.Again.{words_again}
 use Rattle.turned.proofs.Values.{values_again}
-use Rattle.measure.specs.declared.check.Verdict.{Verdict}
-use Rattle.measure.specs.declared.check.Verdict.TheVariants.{Accepted, Refused}
 use Rattle.rows.specs.Rows.{row_of}
 use Rattle.tally.specs.Largest.{largest_of}
 use Rattle.measure.specs.Loss.{loss_of}
 use Rattle.measure.specs.Gap.{link_sum, residual_of, gap_of}
-use Rattle.measure.specs.Check.{lowest_from, verdict_of, check_of}
+use Rattle.measure.specs.Check.{Verdict, accepting, lowest_from, verdict_of, check_of}
 use Rattle.checked.specs.declared.Answer.{Answer}
 use Rattle.checked.specs.Answers.{answer_of}
 use Rattle.bench.specs.Answers.{code_of, answer_words, has_four, no_answer, returned_for, written_for}
@@ -44,6 +40,8 @@ use Rattle.claims.proofs.Accepted.{on_both}
 use Rattle.claims.proofs.TurnedCheck.{turned_verdict}
 use Rattle.claims.proofs.Ways.{cells_turned, down_carried, across_carried, both_from_last, line_from_last, line_stays, rows_then_columns}
 use Rattle.claims.proofs.Reversed.{words, laid, allowed, words_back, job_reads, about_back, allowed_too, job_twice, job_again, both_read, table_turned, proposal_again, proposal_twice}
+use Rattle.std.specs.Prelude.{Ok, Err}
+use Rattle.refusals.specs.declared.Refusal.TheVariants.{NoRoom}
 
 -- ---- packs
 
@@ -107,12 +105,12 @@ both_is_each = record {
 
 -- what a verdict tells but for its place
 told_number : (v : Verdict) → (answer_of (unplaced v)).number ≡ (answer_of v).number
-told_number (Accepted F G) = refl
-told_number (Refused number place) = refl
+told_number (Ok f) = refl
+told_number (Err r) = refl
 
 told_rest : (v : Verdict) → drop 2 (answer_words (answer_of (unplaced v))) ≡ drop 2 (answer_words (answer_of v))
-told_rest (Accepted F G) = refl
-told_rest (Refused number place) = refl
+told_rest (Ok f) = refl
+told_rest (Err r) = refl
 
 same_number : (a b : Answer) → Small a → Small b → a.number ≡ b.number → code_of a % 32 ≡ code_of b % 32
 same_number a b s t e = omega (arith, s.number, t.number, e)
@@ -146,11 +144,11 @@ told_in_reverse = record {
 }
   where
     -- how handing words out ends does not depend on the words
-    handed : (room k : ℕ) (ws vs : List ℤ) → (handed_out room ws (Done k)).outcome ≡ (handed_out room vs (Done k)).outcome
+    handed : (room k : ℕ) (ws vs : List ℤ) → (handed_out room ws (Ok k)).outcome ≡ (handed_out room vs (Ok k)).outcome
     handed room k ws vs = go (ltb room k)
       where
         ended : Bool → List ℤ → Ran
-        ended t ws = if t then record { words = []; outcome = Refuses 13 k } else record { words = ws; outcome = Done k }
+        ended t ws = if t then record { words = []; outcome = Err (NoRoom k) } else record { words = ws; outcome = Ok k }
 
         go : (t : Bool) → (ended t ws).outcome ≡ (ended t vs).outcome
         go true = refl

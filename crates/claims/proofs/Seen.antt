@@ -7,15 +7,11 @@ use mathlib.Core.List.{List, [], ◌∷◌}
 use lib.Dec.{leb}
 use lib.ListN.{length}
 use Rattle.std.specs.Prelude.{if◌then◌else◌}
-use Rattle.slots.specs.declared.Slot.{Slot}
-use Rattle.slots.specs.declared.Slot.TheVariants.{At, Nowhere}
+use Rattle.std.specs.Prelude.{Option, Some, None}
 use Rattle.slots.specs.Slots.{lowest, has_job, at_slot}
 use Rattle.checked.specs.Answers.{Reply, refusal, done, overwritten}
-use Rattle.counts.specs.declared.Row.{Row}
-use Rattle.counts.specs.declared.Row.TheVariants.{Right}
-use Rattle.counts.specs.declared.Tested.{Tested}
-use Rattle.counts.specs.declared.Tested.TheVariants.{Passed, Refused as Barred}
-use Rattle.counts.specs.Counts.{shelf_words, count_in, test_row, on_row, test_shelf, on_tested, row_in, cleared}
+use Rattle.std.specs.Prelude.{Ok, Err}
+use Rattle.counts.specs.Counts.{Tested, passed, shelf_words, count_in, test_row, on_row, test_shelf, on_tested, row_in, cleared}
 use Rattle.counts.proofs.Tests.{shelf_right}
 use Rattle.shelf.specs.Shelf.{forget_reply, Layout, layout_in, span_of, from_society, keep_reply, forgot_reply}
 use Rattle.checked.specs.Checked.{checked_of}
@@ -33,8 +29,8 @@ abbrev NoValues : Reply → Type 0
 NoValues r = r.values ≡ []
 
 tested_none : (o : Tested) (r : Reply) → NoValues r → NoValues (on_tested o r refusal)
-tested_none Passed r h = h
-tested_none (Barred number place) r h = refl
+tested_none (Ok u) r h = h
+tested_none (Err x) r h = refl
 
 keep_none : (job proposal : List ℕ) → NoValues (keep_reply (checked_of job proposal))
 unfolding keep_reply
@@ -44,14 +40,14 @@ forget_none : (l : Layout) (society job : ℕ) (shelf : List ℕ) → NoValues (
 unfolding forgot_reply from_society forget_reply
 forget_none l society job shelf = go (leb society 7)
   where
-    by : Slot → Reply
+    by : Option ℕ → Reply
     by o = at_slot o (λ p. done) (refusal 12 0)
 
-    each : (o : Slot) → NoValues (by o)
-    each (At p) = refl
-    each Nowhere = refl
+    each : (o : Option ℕ) → NoValues (by o)
+    each (Some p) = refl
+    each None = refl
 
-    found : Slot
+    found : Option ℕ
     found = lowest (has_job job) l.words (l.count society) (span_of l society shelf)
 
     go : (b : Bool) → NoValues (cond b (by found) (refusal 11 0))
@@ -71,8 +67,8 @@ fetch_leaves : (job : List ℕ) (room : ℕ) (shelf answer : List ℕ) → left_
 fetch_leaves job room shelf answer = go (has_four answer) (test_shelf (row_in shelf) shelf)
   where
     go : (b : Bool) (o : Tested) → (if b then on_tested o shelf (λ number place. shelf) else shelf) ≡ shelf
-    go true Passed = refl
-    go true (Barred number place) = refl
+    go true (Ok u) = refl
+    go true (Err r) = refl
     go false o = refl
 
 fetch_fixes : (job out answer shelf : List ℕ) (seen : Seen) (left : List ℕ) → Makes (fetches job out answer) shelf seen left → Fixed (fetches job out answer) shelf seen left
@@ -142,15 +138,15 @@ stands_seen (made ∷ mades) xs k st =
     (stands_seen mades (left_on xs made) (lists_left k made) (stands_left made xs k st))
 
 -- a clearing leaves the cleared shelf, and no list has a table
-pub lists_seen_lem : (shelf counts answer : List ℕ) → length shelf ≡ shelf_words → test_row (row_in counts) ≡ Right → has_four answer ≡ true → (mades : List Made)
+pub lists_seen_lem : (shelf counts answer : List ℕ) → length shelf ≡ shelf_words → test_row (row_in counts) ≡ passed → has_four answer ≡ true → (mades : List Made)
     → shelf_seen shelf (clears counts answer ∷ mades) ≡ lists_seen (emptied counts) (clears counts answer ∷ mades)
 lists_seen_lem shelf counts answer len right four mades =
     let clearing = clear_passed shelf counts (shelf_right (row_in counts) shelf len right) in
     let left : left_on shelf (clears counts answer) ≡ cleared (row_in counts) shelf = ap (λ (b : Bool). if b then after shelf (clear counts) else shelf) four ∙ sym clearing.1 in
     let lists : lists_left (emptied counts) (clears counts answer) ≡ emptied counts =
-    ap {B = Kept} (λ (b : Bool). if b then kept_after (emptied counts) (clear counts) else emptied counts) four ∙ ap {B = Kept} (λ (o : Row). on_row o (emptied counts) (λ place. emptied counts)) right in
+    ap {B = Kept} (λ (b : Bool). if b then kept_after (emptied counts) (clear counts) else emptied counts) four ∙ ap {B = Kept} (λ (o : Tested). on_row o (emptied counts) (λ place. emptied counts)) right in
     let says : said shelf (clear counts) ≡ on_row (test_row (row_in counts)) done (λ place. refusal 22 place) =
-    sym clearing.0 ∙ sym (ap {B = Reply} (λ (o : Row). on_row o done (λ place. refusal 22 place)) right) in
+    sym clearing.0 ∙ sym (ap {B = Reply} (λ (o : Tested). on_row o done (λ place. refusal 22 place)) right) in
     ap₂ (λ (s : Seen) (ss : List Seen). s ∷ ss) (ap (seen_of (clears counts answer)) says)
     (ap (λ (x : List ℕ). shelf_seen x mades) left ∙ stands_seen mades (cleared (row_in counts) shelf) (emptied counts) (cleared_stands counts shelf right len)
     ∙ ap (λ (k : Kept). lists_seen k mades) (sym lists))

@@ -5,8 +5,7 @@ use mathlib.Core.List.{List}
 use Prim.Native.Nat.{ℕ, ◌≤◌}
 use native.Mathlib.Omega.{arith}
 use lib.ListN.{length}
-use Rattle.counts.specs.declared.Row.TheVariants.{Right}
-use Rattle.counts.specs.Counts.{test_row, row_in}
+use Rattle.counts.specs.Counts.{passed, test_row, row_in}
 use Rattle.slots.specs.Slots.{kept_in, forgot_in}
 use Rattle.checked.specs.Answers.{accepted, answer_of}
 use Rattle.checked.specs.Checked.{Checked, checked_of}
@@ -55,7 +54,7 @@ module _ (l : Layout) (ok : Lawful l) where
   laid_length (forget s job) xs len = society_length l ok s (forget_step s job) xs len (forgot_same s job xs len)
 
 -- ---- the leading row stays
-module _ (row : List ℕ) (right : test_row row ≡ Right) where
+module _ (row : List ℕ) (right : test_row row ≡ passed) where
   kept_row : (o : Checked) → (accepted o.verdict ≡ true → Sound o) → (xs : List ℕ) → Long (rowed row) (rowed_lawful row right) xs → row_in (kept_shelf (rowed row) o xs) ≡ row_in xs
   unfolding kept_shelf
   kept_row o sound xs len = go (accepted o.verdict) refl

@@ -1,5 +1,5 @@
 -- What an accepted check tells: F is at least 0 and at most 7.6·10^18, G is not negative, so the words of the answer are F and G themselves.
-use Prim.Native.Nat.{ℕ, ◌≤◌}
+use Prim.Native.Nat.{ℕ}
 use mathlib.Core.Path.{◌≡◌, sym, ap₂, ◌∙◌, refl, subst}
 use mathlib.Core.Bool.{Bool, true, false, cond, true≢false}
 use mathlib.Core.List.{List, [], ◌∷◌}
@@ -15,16 +15,13 @@ use Rattle.jobs.specs.Job.{Job}
 use Rattle.jobs.specs.Allowed.{Allowed}
 use Rattle.jobs.proofs.Places.{upto_nonneg}
 use Rattle.jobs.specs.Packs.{job_in}
-use Rattle.measure.specs.declared.check.Verdict.{Verdict}
-use Rattle.measure.specs.declared.check.Verdict.TheVariants.{Accepted, Refused}
 use Rattle.measure.specs.Loss.{family_of, family_across, across_at, loss_of}
-use Rattle.measure.specs.Check.{check_of}
+use Rattle.measure.specs.Check.{Verdict, accepting, check_of}
 use Rattle.measure.proofs.Directions.{loss_at_most}
 use Rattle.checked.specs.Answers.{Reply, refusal, accepted, answer_of}
 use Rattle.checked.specs.Checked.{checked_of}
-use Rattle.counts.specs.declared.Tested.{Tested}
-use Rattle.counts.specs.declared.Tested.TheVariants.{Passed, Refused as Barred}
-use Rattle.counts.specs.Counts.{test_shelf, on_tested, row_in}
+use Rattle.std.specs.Prelude.{Ok, Err}
+use Rattle.counts.specs.Counts.{Tested, test_shelf, on_tested, row_in}
 use Rattle.counts.proofs.Tests.{refused_some}
 use Rattle.shelf.specs.Fetched.{handed}
 use Rattle.shelf.specs.Shelf.{layout_in, keep_reply}
@@ -58,21 +55,21 @@ loss_most job proposal B =
 
 -- ---- an accepted check
 pub record Verdicted (job proposal : List ℕ) (v : Verdict) : Type 0 where
-  pub as_answered : check_of job proposal ≡ Accepted (pos (answer_of v).loss) (pos (answer_of v).gap)
+  pub as_answered : check_of job proposal ≡ accepting (pos (answer_of v).loss) (pos (answer_of v).gap)
 
 pub verdicted : (job proposal : List ℕ) (v : Verdict) → check_of job proposal ≡ v → accepted v ≡ true → Verdicted job proposal v
-verdicted job proposal (Refused number place) e y = absurd (true≢false (sym y))
-verdicted job proposal (Accepted F G) e y =
+verdicted job proposal (Err r) e y = absurd (true≢false (sym y))
+verdicted job proposal (Ok f) e y =
     let a : Acceptable job proposal F G = (accepted_exactly job proposal F G).0 e in
     let f = (loss_most job proposal a.both_read).0 in
     let g = (no_term_negative job proposal a.both_read a.values_in_boxes a.links_hold).gap in
     record {
       as_answered =
-          e ∙ ap₂ {C = Verdict} Accepted (natural F (subst (λ (z : ℤ). pos 0 ≤ℤ z) (sym a.loss_is) f)) (natural G (subst (λ (z : ℤ). pos 0 ≤ℤ z) (sym a.gap_is) g));
+          e ∙ ap₂ {C = Verdict} accepting (natural F (subst (λ (z : ℤ). pos 0 ≤ℤ z) (sym a.loss_is) f)) (natural G (subst (λ (z : ℤ). pos 0 ≤ℤ z) (sym a.gap_is) g));
     }
 
 -- ---- the words of its answer
-pub told : (job proposal : List ℕ) (place F G : ℕ) (answered : List ℕ) → answered ≡ 0 ∷ place ∷ F ∷ G ∷ [] → check_of job proposal ≡ Accepted (pos F) (pos G)
+pub told : (job proposal : List ℕ) (place F G : ℕ) (answered : List ℕ) → answered ≡ 0 ∷ place ∷ F ∷ G ∷ [] → check_of job proposal ≡ accepting (pos F) (pos G)
     → ToldBest job proposal place answered
 told job proposal place F G answered w q = record {
   F = F;
@@ -84,9 +81,9 @@ told job proposal place F G answered w q = record {
 }
 
 pub told_of : (job proposal answered : List ℕ) (v : Verdict) → check_of job proposal ≡ v → (answer_of v).number ≡ 0 → answered ≡ answer_words (answer_of v) → ToldBest job proposal 0 answered
-told_of job proposal answered (Refused number place) e n w = absurd (omega (arith, n, (no_other_refusal job proposal number place e).0))
-told_of job proposal answered (Accepted F G) e n w =
-    told job proposal 0 (nat_abs F) (nat_abs G) answered w (verdicted job proposal (Accepted F G) e refl).as_answered
+told_of job proposal answered (Err r) e n w = absurd (omega (arith, n, (no_other_refusal job proposal number place e).0))
+told_of job proposal answered (Ok f) e n w =
+    told job proposal 0 (nat_abs F) (nat_abs G) answered w (verdicted job proposal (accepting F G) e refl).as_answered
 
 pub kept_told : (job proposal shelf answered : List ℕ) → (said shelf (own (keep job proposal))).answer.number ≡ 0
     → answered ≡ answer_words (said shelf (own (keep job proposal))).answer → ToldBest job proposal 0 answered
@@ -97,22 +94,22 @@ kept_told job proposal shelf answered n w = go (test_shelf (row_in shelf) shelf)
     by o = on_tested o (laid_said (layout_in shelf) shelf (keep job proposal)) refusal
 
     go : (o : Tested) → test_shelf (row_in shelf) shelf ≡ o → (by o).answer.number ≡ 0 → answered ≡ answer_words (by o).answer → ToldBest job proposal 0 answered
-    go Passed e m u = told_of job proposal answered (check_of job proposal) refl m u
-    go (Barred number place) e m u = absurd (refused_some (row_in shelf) shelf number place e m)
+    go (Ok t) e m u = told_of job proposal answered (check_of job proposal) refl m u
+    go (Err r) e m u = absurd (refused_some (row_in shelf) shelf r e m)
 
 -- ---- the values that a fetch hands out, by the check's verdict on a proposal
 pub record Handed (job proposal values : List ℕ) (r : Reply) : Type 0 where
   pub place : r.answer.place ≡ length values
   pub given : r.values ≡ values
-  pub accepted : check_of job proposal ≡ Accepted (pos r.answer.loss) (pos r.answer.gap)
+  pub accepted : check_of job proposal ≡ accepting (pos r.answer.loss) (pos r.answer.gap)
 
 pub handed_told : (job proposal values : List ℕ) (room : ℕ) (v : Verdict) → check_of job proposal ≡ v → (handed room values v).answer.number ≡ 0 → Handed job proposal values (handed room values v)
-handed_told job proposal values room (Refused number place) e n = absurd (omega (arith, n, (no_other_refusal job proposal number place e).0))
-handed_told job proposal values room (Accepted F G) e n = go (leb (length values) room) n
+handed_told job proposal values room (Err r) e n = absurd (omega (arith, n, (no_other_refusal job proposal number place e).0))
+handed_told job proposal values room (Ok f) e n = go (leb (length values) room) n
   where
     reply : Bool → Reply
     reply b = cond b (record { answer = record { number = 0; place = length values; loss = nat_abs F; gap = nat_abs G }; values = values }) (refusal 13 (length values))
 
     go : (b : Bool) → (reply b).answer.number ≡ 0 → Handed job proposal values (reply b)
-    go true m = record { place = refl; given = refl; accepted = (verdicted job proposal (Accepted F G) e refl).as_answered }
+    go true m = record { place = refl; given = refl; accepted = (verdicted job proposal (Ok f) e refl).as_answered }
     go false m = absurd (omega (arith, m))

@@ -17,15 +17,16 @@ use Rattle.certificate.proofs.Turned.{each, Carried, turned_squares, turned_retu
 use Rattle.jobs.specs.Job.{Job, link_coefficient}
 use Rattle.jobs.specs.Allowed.{Allowed}
 use Rattle.turned.specs.About.{TurnedAbout}
-use Rattle.measure.specs.declared.check.Verdict.TheVariants.{Accepted, Refused}
 use Rattle.measure.specs.Loss.{family_with, difference_within, family_of, family_across, across_at, fit_of, roughness, rough_of, loss_of}
 use Rattle.measure.specs.Gap.{link_sum, slope_of, residual_of, cell_term_of, link_term_of, gap_of}
-use Rattle.measure.specs.Check.{verdict_of}
+use Rattle.measure.specs.Check.{accepting, verdict_of}
 use Rattle.claims.specs.Meets.{InBox, LinkHolds, EveryInBox, EveryLinkHolds}
 use Rattle.claims.specs.Verdicts.{LowestNot}
 use Rattle.claims.specs.Reversed.{unplaced}
 use Rattle.claims.proofs.Problem.{inside, inside_across, link_same}
 use Rattle.claims.proofs.Verdict.{verdict_outside, verdict_broken, verdict_above, verdict_accepted, Ruled, outside, broken, above, accepted, ruled}
+use Rattle.std.specs.Prelude.{Err}
+use Rattle.refusals.specs.declared.Refusal.TheVariants.{OutsideBox}
 
 module _ {τ : ℕ → ℕ} {j r : Job} (T : TurnedAbout τ j r) (A : Allowed j) (A' : Allowed r) (I : Involution j.cells τ) (C : Carried (family_of j) each τ)
     (D : Carried (family_across j) (in_row j.columns j.across 1) τ) (v v' y y' : ℕ → ℤ) (value : (i : ℕ) → i < j.cells → v' i ≡ v (τ i))
@@ -170,7 +171,7 @@ module _ {τ : ℕ → ℕ} {j r : Job} (T : TurnedAbout τ j r) (A : Allowed j)
   pub turned_verdict : unplaced (verdict_of r v' y') ≡ unplaced (verdict_of j v y)
   turned_verdict = go (ruled j v y) (ruled r v' y')
     where
-      seven : (place : ℕ) → verdict_of j v y ≡ Refused 7 place → Ruled r v' y' → (EveryInBox j v → ⊥) → unplaced (verdict_of r v' y') ≡ unplaced (verdict_of j v y)
+      seven : (place : ℕ) → verdict_of j v y ≡ Err (OutsideBox place) → Ruled r v' y' → (EveryInBox j v → ⊥) → unplaced (verdict_of r v' y') ≡ unplaced (verdict_of j v y)
       seven place e (outside at L) n = ap unplaced (verdict_outside r v' y' at L) ∙ sym (ap unplaced e)
       seven place e (broken B at L) n = absurd (n (boxes_back B))
       seven place e (above B H h) n = absurd (n (boxes_back B))
@@ -187,5 +188,5 @@ module _ {τ : ℕ → ℕ} {j r : Job} (T : TurnedAbout τ j r) (A : Allowed j)
       go (accepted B H h) s =
           ap unplaced
           (verdict_accepted r v' y' (boxes_there B) (links_there H) (subst₂ (λ (x z : ℤ). x ≤ℤ z) (sym turned_gap) (sym T.tolerance) h)
-          ∙ ap₂ Accepted turned_loss turned_gap
+          ∙ ap₂ accepting turned_loss turned_gap
           ∙ sym (verdict_accepted j v y B H h))

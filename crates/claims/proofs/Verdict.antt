@@ -12,15 +12,15 @@ use mir.Facts.{and_yes, yes_and}
 use Rattle.whole.proofs.Order.{≤ℤ-or->}
 use Rattle.std.specs.Prelude.{if◌then◌else◌}
 use Rattle.jobs.specs.Job.{Job}
-use Rattle.measure.specs.declared.check.Verdict.{Verdict}
-use Rattle.measure.specs.declared.check.Verdict.TheVariants.{Accepted, Refused}
 use Rattle.measure.specs.Loss.{loss_of}
 use Rattle.measure.specs.Gap.{gap_of}
 use Rattle.measure.specs.Largest.{largest_place}
-use Rattle.measure.specs.Check.{lowest_failing, in_box, holds, verdict_of}
+use Rattle.measure.specs.Check.{Verdict, accepting, lowest_failing, in_box, holds, verdict_of}
 use Rattle.claims.specs.Meets.{InBox, LinkHolds, EveryInBox, EveryLinkHolds}
 use Rattle.claims.specs.Verdicts.{LowestNot}
 use Rattle.claims.proofs.Lowest.{Tells, Sought, all, lowest, sought, ends_after, ends_at}
+use Rattle.std.specs.Prelude.{Err}
+use Rattle.refusals.specs.declared.Refusal.TheVariants.{OutsideBox, BrokenLink, GapAbove}
 
 -- the tests of a box and of a link say whether a value is in its box and a link holds
 boxes : (j : Job) (v : ℕ → ℤ) → Tells (InBox j v) (in_box j v)
@@ -47,16 +47,16 @@ module _ (j : Job) (v y : ℕ → ℤ) where
   -- the verdict by where the two searches end and by the last test
   abbrev by : (cell link : ℕ) (within : Bool) → Verdict
   by cell link within =
-      if ltb cell j.cells then Refused 7 cell else
-      if ltb link j.links then Refused 8 link else
-      if within then Accepted (loss_of j v) (gap_of j v y) else Refused 9 (largest_place j v y)
+      if ltb cell j.cells then Err (OutsideBox cell) else
+      if ltb link j.links then Err (BrokenLink link) else
+      if within then accepting (loss_of j v) (gap_of j v y) else Err (GapAbove (largest_place j v y))
 
   verdict_by : {cell link : ℕ} {within : Bool} → lowest_failing (in_box j v) j.cells ≡ cell → lowest_failing (holds j v) j.links ≡ link
       → le_z (gap_of j v y) j.tolerance ≡ within → verdict_of j v y ≡ by cell link within
   unfolding verdict_of
   verdict_by a b c = rw (a, b, c)
 
-  pub verdict_outside : (place : ℕ) → LowestNot (InBox j v) j.cells place → verdict_of j v y ≡ Refused 7 place
+  pub verdict_outside : (place : ℕ) → LowestNot (InBox j v) j.cells place → verdict_of j v y ≡ Err (OutsideBox place)
   verdict_outside place L =
       verdict_by (ends_at (boxes j v) j.cells place L) refl refl
       ∙ rw (lt-ltb place j.cells L.among)
@@ -65,7 +65,7 @@ module _ (j : Job) (v y : ℕ → ℤ) where
     abbrev boxes_pass : lowest_failing (in_box j v) j.cells ≡ j.cells
     boxes_pass = ends_after (boxes j v) j.cells B
 
-    pub verdict_broken : (place : ℕ) → LowestNot (LinkHolds j v) j.links place → verdict_of j v y ≡ Refused 8 place
+    pub verdict_broken : (place : ℕ) → LowestNot (LinkHolds j v) j.links place → verdict_of j v y ≡ Err (BrokenLink place)
     verdict_broken place L =
         verdict_by boxes_pass (ends_at (links j v) j.links place L) refl
         ∙ rw (past j.cells, lt-ltb place j.links L.among)
@@ -74,12 +74,12 @@ module _ (j : Job) (v y : ℕ → ℤ) where
       links_pass : lowest_failing (holds j v) j.links ≡ j.links
       links_pass = ends_after (links j v) j.links H
 
-      pub verdict_above : j.tolerance <ℤ gap_of j v y → verdict_of j v y ≡ Refused 9 (largest_place j v y)
+      pub verdict_above : j.tolerance <ℤ gap_of j v y → verdict_of j v y ≡ Err (GapAbove (largest_place j v y))
       verdict_above h =
           verdict_by boxes_pass links_pass (denied (le_z (gap_of j v y) j.tolerance) (λ t. clash_ℤ h (le_z_yes t)))
           ∙ rw (past j.cells, past j.links)
 
-      pub verdict_accepted : gap_of j v y ≤ℤ j.tolerance → verdict_of j v y ≡ Accepted (loss_of j v) (gap_of j v y)
+      pub verdict_accepted : gap_of j v y ≤ℤ j.tolerance → verdict_of j v y ≡ accepting (loss_of j v) (gap_of j v y)
       verdict_accepted h =
           verdict_by boxes_pass links_pass (told (le_z (gap_of j v y) j.tolerance) h.le) ∙ rw (past j.cells, past j.links)
 

@@ -6,12 +6,10 @@ use Rattle.std.specs.Prelude.{if◌then◌else◌}
 use Rattle.jobs.specs.Words.{word_at}
 use Rattle.jobs.specs.Packs.{job_in}
 use Rattle.tally.specs.Largest.{Largest}
-use Rattle.measure.specs.declared.check.Verdict.TheVariants.{Accepted, Refused}
 use Rattle.measure.specs.Gap.{link_term_of}
-use Rattle.measure.specs.Check.{check_of}
+use Rattle.measure.specs.Check.{accepting, check_of}
 use Rattle.imports.specs.declared.Given.{Given}
-use Rattle.counts.specs.declared.Row.TheVariants.{Right}
-use Rattle.counts.specs.Counts.{shelf_words, count_in, test_row, row_in, Ready}
+use Rattle.counts.specs.Counts.{passed, shelf_words, count_in, test_row, row_in, Ready}
 use Rattle.shelf.specs.Calls.{Call, own, keep, forget, clear}
 use Rattle.bench.specs.Answers.{has_four}
 use Rattle.bench.specs.Calls.{CheckSays, TermsSays, ProposeSays, ProposeLinkedSays, ReadSays, WriteSays, ImportSays, ExportSays, RatesSays, ShelfSays, FetchSays}
@@ -22,6 +20,8 @@ use Rattle.claims.specs.Verdicts.{CellTold}
 use Rattle.claims.specs.Lists.{emptied}
 use Rattle.claims.specs.LastKept.{ClearedWith}
 use Rattle.claims.specs.Seen.{Made, clears, Seen, MakesAll, lists_seen, without_others, own_seen, own_made, NoClearing}
+use Rattle.std.specs.Prelude.{Err}
+use Rattle.refusals.specs.declared.Refusal.TheVariants.{GapAbove}
 
 -- What a call may claim of the number that it returns, of its answer slice, and of the slice that it writes to.
 abbrev pub Claim : Type 0 → Type 1
@@ -122,7 +122,7 @@ pub record ToldBest (job proposal : List ℕ) (place : ℕ) (answered : List ℕ
   pub F : ℕ
   pub G : ℕ
   pub words : answered ≡ 0 ∷ place ∷ F ∷ G ∷ []
-  pub accepted : check_of job proposal ≡ Accepted (pos F) (pos G)
+  pub accepted : check_of job proposal ≡ accepting (pos F) (pos G)
   pub best : NoneBelow (job_in job) (pos F) (pos G)
   pub close : NoneFar (job_in job) (values_in job proposal) (pos F) (pos G)
 
@@ -159,7 +159,7 @@ pub record TermsTold (job proposal : List ℕ) (left : List ℤ) : Type 0 where
       → (word_at left (3 * ((job_in job).cells + l)) ≡ link_term_of (job_in job) (values_in job proposal) (multipliers_in job proposal) l)
       × (word_at left (3 * ((job_in job).cells + l) + 1) ≡ pos 0) × (word_at left (3 * ((job_in job).cells + l) + 2) ≡ pos 2)
   pub sums : sum ((job_in job).cells + (job_in job).links) (λ place. word_at left (3 * place)) ≡ gap_in job proposal
-  pub largest : (place : ℕ) → check_of job proposal ≡ Refused 9 place → Largest (λ p. word_at left (3 * p)) ((job_in job).cells + (job_in job).links) place
+  pub largest : (place : ℕ) → check_of job proposal ≡ Err (GapAbove place) → Largest (λ p. word_at left (3 * p)) ((job_in job).cells + (job_in job).links) place
 
 -- So it is wherever the call returns the number 0.
 abbrev pub TermsHanded : Type 0
@@ -174,7 +174,7 @@ TermsHanded =
 -- number returned, the answer slice and the output, is what the lists say.
 abbrev pub EightListsSeen : Type 0
 EightListsSeen =
-    (shelf counts answer : List ℕ) → length shelf ≡ shelf_words → test_row (row_in counts) ≡ Right → has_four answer ≡ true → (mades : List Made) (seens : List Seen)
+    (shelf counts answer : List ℕ) → length shelf ≡ shelf_words → test_row (row_in counts) ≡ passed → has_four answer ≡ true → (mades : List Made) (seens : List Seen)
     → MakesAll (clears counts answer ∷ mades) shelf seens → seens ≡ lists_seen (emptied counts) (clears counts answer ∷ mades)
 
 -- From any words: what C sees of one society's calls is the same if every call that names another society is left out.

@@ -2,8 +2,7 @@
 -- F and G that the fetch gives.
 use Rattle.std.specs.Prelude.{ℕ, ◌<◌, ◌≡◌, ◌⊎◌, List, [], ◌∷◌, pos, length, get_or}
 use Rattle.jobs.specs.Packs.{job_in}
-use Rattle.measure.specs.declared.check.Verdict.TheVariants.{Accepted}
-use Rattle.measure.specs.Check.{check_of}
+use Rattle.measure.specs.Check.{accepting, check_of}
 use Rattle.checked.specs.Answers.{Reply}
 use Rattle.shelf.specs.Calls.{Call, own, keep}
 use Rattle.claims.specs.Read.{values_in}
@@ -24,7 +23,7 @@ pub record IsAccepted (calls : List Call) (job : List ℕ) (r : Reply) : Type 0 
   pub sent : Sent (own (keep kept_under proposal)) calls
   pub its_society : (job_in kept_under).society ≡ (job_in job).society
   pub its_number : (job_in kept_under).number ≡ (job_in job).number
-  pub accepted : check_of job proposal ≡ Accepted (pos r.answer.loss) (pos r.answer.gap)
+  pub accepted : check_of job proposal ≡ accepting (pos r.answer.loss) (pos r.answer.gap)
   pub count : length r.values ≡ (job_in job).cells
   pub values : (i : ℕ) → i < (job_in job).cells → pos (get_or r.values i 0) ≡ values_in job proposal i
   pub best : NoneBelow (job_in job) (pos r.answer.loss) (pos r.answer.gap)

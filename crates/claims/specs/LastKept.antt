@@ -3,8 +3,7 @@ use Rattle.std.specs.Prelude.{ℕ, ◌≡◌, Bool, cond, ◌&&◌, List, [], �
 use Rattle.std.proofs.Math.Option.{Option, none, some}
 use Rattle.checked.specs.Answers.{Reply, accepted}
 use Rattle.checked.specs.Checked.{Checked, checked_of}
-use Rattle.counts.specs.declared.Row.TheVariants.{Right}
-use Rattle.counts.specs.Counts.{shelf_words, test_row, row_in}
+use Rattle.counts.specs.Counts.{passed, shelf_words, test_row, row_in}
 use Rattle.shelf.specs.Calls.{Own, Call, keep, fetch, forget, own, clear, after}
 use Rattle.claims.specs.Lists.{Table, table_from, Kept, emptied, kept_after}
 
@@ -33,7 +32,7 @@ last_kept society job calls = last_from society job none calls
 pub record ClearedWith (counts shelf : List ℕ) : Type 0 where
   pub before : List ℕ
   pub long : length before ≡ shelf_words
-  pub allowed : test_row (row_in counts) ≡ Right
+  pub allowed : test_row (row_in counts) ≡ passed
   pub is : shelf ≡ after before (clear counts)
 
 -- the shelf, and the eight lists, after a sequence of calls

@@ -5,55 +5,57 @@ use Rattle.whole.specs.Sum.{sum}
 use Rattle.certificate.specs.Problem.{squared}
 use Rattle.certificate.specs.Differences.{form_at}
 use Rattle.certificate.specs.Far.{off_by}
-use Rattle.packs.specs.declared.Outcome.TheVariants.{Refused as Refuses}
 use Rattle.jobs.specs.Words.{word_at}
 use Rattle.jobs.specs.Job.{Job}
 use Rattle.jobs.specs.Allowed.{Allowed}
 use Rattle.jobs.specs.Packs.{job_in, read_job}
 use Rattle.rows.specs.Rows.{row_of}
-use Rattle.measure.specs.declared.check.Verdict.TheVariants.{Accepted, Refused}
 use Rattle.measure.specs.Loss.{fit_of, loss_of}
-use Rattle.measure.specs.Check.{check_of}
+use Rattle.measure.specs.Check.{accepting, check_of}
 use Rattle.claims.specs.Read.{proposal_in, values_in, multipliers_in, loss_in, term_in, Reads, BothRead}
 use Rattle.claims.specs.Meets.{EveryInBox, EveryLinkHolds, Meets, scaled_loss_of, NoneBelow, NoneNegative}
 use Rattle.claims.specs.Far.{farness_of, AsGood, NoneFar}
 use Rattle.claims.specs.Verdicts.{Acceptable, Outside, Broken, Above, SideSaid}
 use Rattle.claims.specs.Worked.{WorkedTable, plain, starred, select_job, grids, select_off, far_job, far_table, far_other}
+use Rattle.std.specs.Prelude.{Err}
+use Rattle.refusals.specs.declared.Refusal.TheVariants.{BadProposal, OutsideBox, BrokenLink, GapAbove}
+use Rattle.refusals.specs.declared.Refusal.{Refusal}
+use Rattle.refusals.specs.Refusals.{number_of}
 
 -- ---- accepted exactly, and what each refusal means
 
 -- The check accepts with F and G if and only if both packs read, every value is in its box, every link holds, the gap is at most the tolerance,
 -- F is the loss and G the gap.
 abbrev pub AcceptedExactly : Type 0
-AcceptedExactly = (job proposal : List ℕ) (F G : ℤ) → (check_of job proposal ≡ Accepted F G) ↔ Acceptable job proposal F G
+AcceptedExactly = (job proposal : List ℕ) (F G : ℤ) → (check_of job proposal ≡ accepting F G) ↔ Acceptable job proposal F G
 
 -- 1 to 5 are the job pack's refusals, with their places.
 abbrev pub JobRefusedExactly : Type 0
 JobRefusedExactly =
-    (job proposal : List ℕ) (number place : ℕ) → number ≤ 5
-    → (check_of job proposal ≡ Refused number place) ↔ ((read_job job).outcome ≡ Refuses number place)
+    (job proposal : List ℕ) (r : Refusal) → number_of r ≤ 5
+    → (check_of job proposal ≡ Err r) ↔ ((read_job job).outcome ≡ Err r)
 
 -- 6 is the proposal pack's refusal, for a job pack that reads.
 abbrev pub ProposalRefusedExactly : Type 0
 ProposalRefusedExactly =
     (job proposal : List ℕ) (place : ℕ)
-    → (check_of job proposal ≡ Refused 6 place) ↔ (Reads (read_job job).outcome × ((proposal_in job proposal).outcome ≡ Refuses 6 place))
+    → (check_of job proposal ≡ Err (BadProposal place)) ↔ (Reads (read_job job).outcome × ((proposal_in job proposal).outcome ≡ Err (BadProposal place)))
 
 -- 7 names the lowest cell whose value is outside its box.
 abbrev pub OutsideExactly : Type 0
-OutsideExactly = (job proposal : List ℕ) (place : ℕ) → (check_of job proposal ≡ Refused 7 place) ↔ Outside job proposal place
+OutsideExactly = (job proposal : List ℕ) (place : ℕ) → (check_of job proposal ≡ Err (OutsideBox place)) ↔ Outside job proposal place
 
 -- 8 names the lowest broken link, where every value is in its box.
 abbrev pub BrokenExactly : Type 0
-BrokenExactly = (job proposal : List ℕ) (place : ℕ) → (check_of job proposal ≡ Refused 8 place) ↔ Broken job proposal place
+BrokenExactly = (job proposal : List ℕ) (place : ℕ) → (check_of job proposal ≡ Err (BrokenLink place)) ↔ Broken job proposal place
 
 -- 9 says that the gap is above the tolerance, where every value is in its box and every link holds, and names the largest term of the gap.
 abbrev pub AboveExactly : Type 0
-AboveExactly = (job proposal : List ℕ) (place : ℕ) → (check_of job proposal ≡ Refused 9 place) ↔ Above job proposal place
+AboveExactly = (job proposal : List ℕ) (place : ℕ) → (check_of job proposal ≡ Err (GapAbove place)) ↔ Above job proposal place
 
 -- There is no other refusal.
 abbrev pub NoOtherRefusal : Type 0
-NoOtherRefusal = (job proposal : List ℕ) (number place : ℕ) → check_of job proposal ≡ Refused number place → (1 ≤ number) × (number ≤ 9)
+NoOtherRefusal = (job proposal : List ℕ) (r : Refusal) → check_of job proposal ≡ Err r → (1 ≤ number_of r) × (number_of r ≤ 9)
 
 -- Document 02, W-202: each cell term says whether the box or the weight supplied it.
 abbrev pub EachSideSaid : Type 0
@@ -91,12 +93,12 @@ LineLoss = (j : Job) → Allowed j → j.grid ≡ false → (v : ℕ → ℤ) �
 
 -- Where the check accepts with F and G, no table that meets the job, fractions included, has a loss below F - G.
 abbrev pub Best : Type 0
-Best = (job proposal : List ℕ) (F G : ℤ) → check_of job proposal ≡ Accepted F G → NoneBelow (job_in job) F G
+Best = (job proposal : List ℕ) (F G : ℤ) → check_of job proposal ≡ accepting F G → NoneBelow (job_in job) F G
 
 -- The accepted table, written with any d, is itself such a table and has the scaled loss d²F: so F is within G of the least.
 abbrev pub AcceptedMeets : Type 0
 AcceptedMeets =
-    (job proposal : List ℕ) (F G : ℤ) → check_of job proposal ≡ Accepted F G
+    (job proposal : List ℕ) (F G : ℤ) → check_of job proposal ≡ accepting F G
     → (d : ℤ) → pos 1 ≤ℤ d → Meets (job_in job) d (λ i. d *ℤ values_in job proposal i)
     × (scaled_loss_of (job_in job) d (λ i. d *ℤ values_in job proposal i) ≡ d *ℤ d *ℤ F)
 
@@ -104,7 +106,7 @@ AcceptedMeets =
 
 -- Where the check accepts with F and G, every table that meets the job, fractions included, and whose loss is not above F is close to the accepted one.
 abbrev pub AcceptedClose : Type 0
-AcceptedClose = (job proposal : List ℕ) (F G : ℤ) → check_of job proposal ≡ Accepted F G → NoneFar (job_in job) (values_in job proposal) F G
+AcceptedClose = (job proposal : List ℕ) (F G : ℤ) → check_of job proposal ≡ accepting F G → NoneFar (job_in job) (values_in job proposal) F G
 
 -- Of a job that is no grid the differences counted are "the weighted squares …, plus k times the squared order-z differences of those".
 abbrev pub LineFarness : Type 0
@@ -117,7 +119,7 @@ GridFarness = farness_of (job_in (select_job 40)) (word_at select_off) ≡ pos 8
 
 -- The bound is reached: a table accepted with F 12 and G 3, and another that meets the job with a loss of 12 too, and whose differences come to 4G.
 pub record FarReached : Type 0 where
-  pub accepted : check_of far_job far_table ≡ Accepted (pos 12) (pos 3)
+  pub accepted : check_of far_job far_table ≡ accepting (pos 12) (pos 3)
   pub as_good : AsGood (job_in far_job) (pos 12) (pos 1) (word_at far_other)
   pub reached : farness_of (job_in far_job) (off_by (pos 1) (word_at far_other) (values_in far_job far_table)) ≡ pos 4 *ℤ pos 3
 
@@ -125,7 +127,7 @@ pub record FarReached : Type 0 where
 abbrev pub FourLeast : Type 0
 FourLeast =
     (a b : ℕ)
-    → ((job proposal : List ℕ) (F G : ℤ) → check_of job proposal ≡ Accepted F G → (d : ℤ) (X : ℕ → ℤ) → AsGood (job_in job) F d X
+    → ((job proposal : List ℕ) (F G : ℤ) → check_of job proposal ≡ accepting F G → (d : ℤ) (X : ℕ → ℤ) → AsGood (job_in job) F d X
     → (pos b *ℤ farness_of (job_in job) (off_by d X (values_in job proposal))) ≤ℤ (pos a *ℤ G *ℤ (d *ℤ d)))
     → 4 * b ≤ a
 

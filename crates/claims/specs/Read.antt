@@ -1,14 +1,13 @@
 -- What the promises about the check speak of: the values and multipliers of a proposal pack for the job of a pack, and their loss and gap. Each says
 -- something only where the packs read.
 use Rattle.std.specs.Prelude.{ℕ, ◌≡◌, List, ℤ}
-use Rattle.packs.specs.declared.Outcome.{Outcome}
-use Rattle.packs.specs.declared.Outcome.TheVariants.{Done}
-use Rattle.packs.specs.Reading.{Ran}
+use Rattle.packs.specs.Reading.{Outcome, Ran}
 use Rattle.jobs.specs.Packs.{job_in, read_job, read_proposal}
 use Rattle.measure.specs.Loss.{loss_of}
 use Rattle.measure.specs.Gap.{gap_of}
 use Rattle.measure.specs.Largest.{term_at}
 use Rattle.measure.specs.Check.{values_of, multipliers_of}
+use Rattle.std.specs.Prelude.{Ok}
 
 -- "Proposal pack: n values, then one multiplier per link": n and the links are the job's.
 abbrev pub proposal_in : (job proposal : List ℕ) → Ran
@@ -33,7 +32,7 @@ term_in job proposal = term_at (job_in job) (values_in job proposal) (multiplier
 
 -- A pack reads: its reading is done, after some count of words.
 abbrev pub Reads : Outcome → Type 0
-Reads outcome = (k : ℕ) × (outcome ≡ Done k)
+Reads outcome = (k : ℕ) × (outcome ≡ Ok k)
 
 pub record BothRead (job proposal : List ℕ) : Type 0 where
   pub job_reads : Reads (read_job job).outcome

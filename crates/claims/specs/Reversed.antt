@@ -4,9 +4,11 @@ use Rattle.whole.specs.Turned.{from_last, grid_map}
 use Rattle.jobs.specs.Job.{Job}
 use Rattle.jobs.specs.Packs.{job_in, read_job, write_job, write_proposal}
 use Rattle.turned.specs.Words.{turned_words, turned_values}
-use Rattle.measure.specs.declared.check.Verdict.{Verdict}
-use Rattle.measure.specs.declared.check.Verdict.TheVariants.{Accepted, Refused}
 use Rattle.claims.specs.Read.{proposal_in}
+use Rattle.std.specs.Prelude.{Result, Ok, Err}
+use Rattle.measure.specs.Check.{Verdict}
+use Rattle.refusals.specs.Refusals.{number_of}
+use Rattle.measure.specs.declared.check.Figures.{Figures}
 
 -- "Grids reverse both ways": their rows alone, their columns alone, or both together.
 pub data Way : Type 0 where
@@ -37,7 +39,7 @@ abbrev pub reversed_proposal : Way → (job proposal : List ℕ) → List ℕ
 reversed_proposal way job proposal =
     (write_proposal (job_in job).cells (job_in job).links (turned_values (cell_from way (job_in job)) (job_in job).cells (proposal_in job proposal).words)).bytes
 
--- "the same number at the check, with the same F and G; places may differ": a verdict without its place.
-abbrev pub unplaced : Verdict → Verdict
-unplaced (Accepted F G) = Accepted F G
-unplaced (Refused number place) = Refused number 0
+-- "the same number at the check, with the same F and G; places may differ": a verdict without its place, of a refusal the number alone.
+abbrev pub unplaced : Verdict → Result Figures ℕ
+unplaced (Ok f) = Ok f
+unplaced (Err r) = Err (number_of r)

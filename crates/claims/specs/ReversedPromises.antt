@@ -1,22 +1,22 @@
 -- What is promised of packs written in reverse (W-213), in each of the three ways. The proof of each stands in proofs/ReversedPromises.antt.
 use Rattle.std.specs.Prelude.{ℕ, ◌%◌, ◌<◌, ◌≡◌, false, List, [], ◌∷◌, ℤ, drop}
 use Rattle.whole.specs.Turned.{from_last}
-use Rattle.packs.specs.declared.Outcome.TheVariants.{Done}
 use Rattle.packs.specs.Promises.{AllBytes}
 use Rattle.jobs.specs.Job.{Job}
 use Rattle.jobs.specs.Allowed.{Allowed}
 use Rattle.jobs.specs.Packs.{job_in, read_job}
 use Rattle.turned.specs.About.{TurnedAbout}
-use Rattle.measure.specs.declared.check.Verdict.TheVariants.{Refused}
 use Rattle.measure.specs.Check.{check_of}
 use Rattle.bench.specs.Calls.{CheckSays, ReadSays}
 use Rattle.claims.specs.Read.{values_in, multipliers_in, Reads, BothRead}
 use Rattle.claims.specs.Worked.{plain, linked, select_job}
 use Rattle.claims.specs.Reversed.{Way, rows_alone, columns_alone, both_together, cell_from, reversed_job, reversed_proposal, unplaced}
+use Rattle.std.specs.Prelude.{Ok, Err}
+use Rattle.refusals.specs.declared.Refusal.TheVariants.{GapAbove}
 
 -- What can be read can be read in reverse, a job pack into as many words and with it a proposal pack; and the job is allowed, its positive weights (4) too.
 pub record ReversedReads : Type 0 where
-  pub jobs : (way : Way) (job : List ℕ) (k : ℕ) → (read_job job).outcome ≡ Done k → (read_job (reversed_job way job)).outcome ≡ Done k
+  pub jobs : (way : Way) (job : List ℕ) (k : ℕ) → (read_job job).outcome ≡ Ok k → (read_job (reversed_job way job)).outcome ≡ Ok k
   pub allowed : (way : Way) (job : List ℕ) → Reads (read_job job).outcome → Allowed (job_in (reversed_job way job))
   pub proposals : (way : Way) (job proposal : List ℕ) → BothRead job proposal → BothRead (reversed_job way job) (reversed_proposal way job proposal)
 
@@ -53,9 +53,9 @@ CheckedAlike =
 
 -- Places do differ: document 01's v 2 3 3 with T 8 is refused with 9 at cell 1, and in reverse at cell 0.
 pub record PlacesDiffer : Type 0 where
-  pub as_it_is : check_of (plain (8 ∷ []) 0 7 0) (2 ∷ 3 ∷ 3 ∷ []) ≡ Refused 9 1
+  pub as_it_is : check_of (plain (8 ∷ []) 0 7 0) (2 ∷ 3 ∷ 3 ∷ []) ≡ Err (GapAbove 1)
   pub in_reverse :
-      check_of (reversed_job both_together (plain (8 ∷ []) 0 7 0)) (reversed_proposal both_together (plain (8 ∷ []) 0 7 0) (2 ∷ 3 ∷ 3 ∷ [])) ≡ Refused 9 0
+      check_of (reversed_job both_together (plain (8 ∷ []) 0 7 0)) (reversed_proposal both_together (plain (8 ∷ []) 0 7 0) (2 ∷ 3 ∷ 3 ∷ [])) ≡ Err (GapAbove 0)
 
 -- So a C caller that lends the same slices gets from a check the same number and, after number and place, the same words, F and G; and from reading a job's words
 -- the same answer, place and all.

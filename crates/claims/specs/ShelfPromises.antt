@@ -10,8 +10,9 @@ use Rattle.checked.specs.Answers.{Reply, refusal, accepted}
 use Rattle.checked.specs.Checked.{checked_of}
 use Rattle.shelf.specs.Fetched.{handed, same_counts}
 use Rattle.slots.specs.Slots.{slot_words}
-use Rattle.counts.specs.declared.Row.TheVariants.{Right, Wrong}
-use Rattle.counts.specs.Counts.{shelf_words, count_in, test_row, row_in, rest_of, Ready}
+use Rattle.std.specs.Prelude.{Err}
+use Rattle.refusals.specs.declared.Refusal.TheVariants.{CountsNotAllowed}
+use Rattle.counts.specs.Counts.{passed, shelf_words, count_in, test_row, row_in, rest_of, Ready}
 use Rattle.shelf.specs.Shelf.{span_in}
 use Rattle.shelf.specs.Calls.{Own, Call, fetch, own, clear, after, said, shelf_run, names}
 use Rattle.claims.specs.Read.{Reads}
@@ -70,14 +71,14 @@ RestStays = (shelf : List ℕ) → Ready shelf → (call : Own) → rest_of (row
 
 abbrev pub RestStaysCleared : Type 0
 RestStaysCleared =
-    (shelf counts : List ℕ) → length shelf ≡ shelf_words → test_row (row_in counts) ≡ Right → rest_of (row_in counts) (after shelf (clear counts)) ≡ rest_of (row_in counts) shelf
+    (shelf counts : List ℕ) → length shelf ≡ shelf_words → test_row (row_in counts) ≡ passed → rest_of (row_in counts) (after shelf (clear counts)) ≡ rest_of (row_in counts) shelf
 
 -- A row that is not allowed is refused with 22 at its place, and nothing is touched; so are counts that are not allowed at clearing.
 abbrev pub WrongRowRefused : Type 0
 WrongRowRefused =
     (shelf : List ℕ) → length shelf ≡ shelf_words → (place : ℕ)
-    → (test_row (row_in shelf) ≡ Wrong place → (call : Own) → (said shelf (own call) ≡ refusal 22 place) × (after shelf (own call) ≡ shelf))
-    × ((counts : List ℕ) → test_row (row_in counts) ≡ Wrong place → (said shelf (clear counts) ≡ refusal 22 place) × (after shelf (clear counts) ≡ shelf))
+    → (test_row (row_in shelf) ≡ Err (CountsNotAllowed place) → (call : Own) → (said shelf (own call) ≡ refusal 22 place) × (after shelf (own call) ≡ shelf))
+    × ((counts : List ℕ) → test_row (row_in counts) ≡ Err (CountsNotAllowed place) → (said shelf (clear counts) ≡ refusal 22 place) × (after shelf (clear counts) ≡ shelf))
 
 -- ---- what a fetch gives
 

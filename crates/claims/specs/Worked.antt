@@ -1,8 +1,10 @@
 -- Document 01, "Tables worked by hand": the starred tables, each as the bytes of its two packs and the verdict that belongs to them; and tables of
 -- document 02, worked by hand likewise.
 use Rattle.std.specs.Prelude.{ℕ, List, [], ◌∷◌, ◌++◌, ℤ, pos, negsuc}
-use Rattle.measure.specs.declared.check.Verdict.{Verdict}
-use Rattle.measure.specs.declared.check.Verdict.TheVariants.{Accepted, Refused}
+use Rattle.std.specs.Prelude.{Err}
+use Rattle.refusals.specs.declared.Refusal.TheVariants.{BrokenLink, GapAbove}
+use Rattle.measure.specs.Check.{accepting}
+use Rattle.measure.specs.Check.{Verdict}
 
 pub record WorkedTable : Type 0 where
   pub job : List ℕ
@@ -40,21 +42,21 @@ hollow tolerance u₀ u₁ u₂ = job_pack tolerance (cell u₀ 1) (cell u₁ 0)
 abbrev pub starred : List WorkedTable
 starred =
     -- "u 0 7 0, v 2 3 2: F 28, G 0"; "v 2 3 3: F 30, G 9"
-    table (plain (0 ∷ []) 0 7 0) (2 ∷ 3 ∷ 2 ∷ []) (Accepted (pos 28) (pos 0))
-    ∷ table (plain (9 ∷ []) 0 7 0) (2 ∷ 3 ∷ 3 ∷ []) (Accepted (pos 30) (pos 9))
+    table (plain (0 ∷ []) 0 7 0) (2 ∷ 3 ∷ 2 ∷ []) (accepting (pos 28) (pos 0))
+    ∷ table (plain (9 ∷ []) 0 7 0) (2 ∷ 3 ∷ 3 ∷ []) (accepting (pos 30) (pos 9))
     -- "v 0 7 0: F 196, G 784; T 784 accepts, T 783 gives 9": the terms are 196, 392 and 196, so the place of 9 is 1
-    ∷ table (plain (144 ∷ 6 ∷ []) 0 7 0) (0 ∷ 7 ∷ 0 ∷ []) (Accepted (pos 196) (pos 784))
-    ∷ table (plain (143 ∷ 6 ∷ []) 0 7 0) (0 ∷ 7 ∷ 0 ∷ []) (Refused 9 1)
+    ∷ table (plain (144 ∷ 6 ∷ []) 0 7 0) (0 ∷ 7 ∷ 0 ∷ []) (accepting (pos 196) (pos 784))
+    ∷ table (plain (143 ∷ 6 ∷ []) 0 7 0) (0 ∷ 7 ∷ 0 ∷ []) (Err (GapAbove 1))
     -- "u 0 5 0, link -v0+v1 <= 0, v 2 2 1: multiplier 2 gives F 15, G 0; multiplier 0 gives G 2"
-    ∷ table (linked (0 ∷ []) 0 5 0) (2 ∷ 2 ∷ 1 ∷ 2 ∷ []) (Accepted (pos 15) (pos 0))
-    ∷ table (linked (2 ∷ []) 0 5 0) (2 ∷ 2 ∷ 1 ∷ 0 ∷ []) (Accepted (pos 15) (pos 2))
+    ∷ table (linked (0 ∷ []) 0 5 0) (2 ∷ 2 ∷ 1 ∷ 2 ∷ []) (accepting (pos 15) (pos 0))
+    ∷ table (linked (2 ∷ []) 0 5 0) (2 ∷ 2 ∷ 1 ∷ 0 ∷ []) (accepting (pos 15) (pos 2))
     -- "the same, v 3 2 1, multiplier 2: F 19, G 11. v 2 3 1 gives 8, link 0."
-    ∷ table (linked (11 ∷ []) 0 5 0) (3 ∷ 2 ∷ 1 ∷ 2 ∷ []) (Accepted (pos 19) (pos 11))
-    ∷ table (linked (11 ∷ []) 0 5 0) (2 ∷ 3 ∷ 1 ∷ 2 ∷ []) (Refused 8 0)
+    ∷ table (linked (11 ∷ []) 0 5 0) (3 ∷ 2 ∷ 1 ∷ 2 ∷ []) (accepting (pos 19) (pos 11))
+    ∷ table (linked (11 ∷ []) 0 5 0) (2 ∷ 3 ∷ 1 ∷ 2 ∷ []) (Err (BrokenLink 0))
     -- "weights 1 0 1, u 0 50 0, v 0 1 0: F 4, G 16"
-    ∷ table (hollow (16 ∷ []) 0 50 0) (0 ∷ 1 ∷ 0 ∷ []) (Accepted (pos 4) (pos 16))
+    ∷ table (hollow (16 ∷ []) 0 50 0) (0 ∷ 1 ∷ 0 ∷ []) (accepting (pos 4) (pos 16))
     -- "u 0 1 0, v 0 0 0: F 1, G 1"
-    ∷ table (plain (1 ∷ []) 0 1 0) (0 ∷ 0 ∷ 0 ∷ []) (Accepted (pos 1) (pos 1))
+    ∷ table (plain (1 ∷ []) 0 1 0) (0 ∷ 0 ∷ 0 ∷ []) (accepting (pos 1) (pos 1))
     ∷ []
 
 -- W-205, the select table of `docs/SELECT-TABLE.md`: 3 rows and 2 columns, the order down 2, the order across 1, the second constant 2, k 1, T by its
@@ -66,9 +68,9 @@ select_job tolerance =
 
 abbrev pub grids : List WorkedTable
 grids =
-    table (select_job 0) (10 ∷ 12 ∷ 14 ∷ 17 ∷ 21 ∷ 24 ∷ []) (Accepted (pos 211) (pos 0))
-    ∷ table (select_job 40) (10 ∷ 12 ∷ 15 ∷ 17 ∷ 21 ∷ 24 ∷ []) (Accepted (pos 219) (pos 40))
-    ∷ table (select_job 39) (10 ∷ 12 ∷ 15 ∷ 17 ∷ 21 ∷ 24 ∷ []) (Refused 9 2)
+    table (select_job 0) (10 ∷ 12 ∷ 14 ∷ 17 ∷ 21 ∷ 24 ∷ []) (accepting (pos 211) (pos 0))
+    ∷ table (select_job 40) (10 ∷ 12 ∷ 15 ∷ 17 ∷ 21 ∷ 24 ∷ []) (accepting (pos 219) (pos 40))
+    ∷ table (select_job 39) (10 ∷ 12 ∷ 15 ∷ 17 ∷ 21 ∷ 24 ∷ []) (Err (GapAbove 2))
     ∷ []
 
 -- The first of these tables is off from the second by 1 in the cell 2 alone.

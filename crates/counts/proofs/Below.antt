@@ -1,9 +1,14 @@
 -- The slots of the societies below one: they rise from society to society, and few counts make few slots.
 use mathlib.Core.Path.{◌≡◌, refl, sym, ap, subst}
 use Prim.Native.Nat.{ℕ, zero, suc, ◌+◌, ◌-◌, ◌*◌, ◌<◌, ◌≤◌}
+use mathlib.Core.List.{List}
 use native.Mathlib.Numerals.{add-one}
+use lib.ListN.{length, take}
+use lib.Seq.{take-suc}
+use Rattle.std.specs.List.{sum_by}
+use Rattle.std.proofs.lemmas.Grind.{common_steps}
 use native.Mathlib.Omega.{arith}
-use Rattle.counts.specs.Counts.{most_slots, slots_below}
+use Rattle.counts.specs.Counts.{most_slots, count_in, slots_below}
 
 pub below_none : (count : ℕ → ℕ) → slots_below count 0 ≡ 0
 unfolding slots_below
@@ -34,3 +39,8 @@ below_apart count s t h = omega (arith, below_suc count s, below_over count (suc
 pub below_few : (count : ℕ → ℕ) (s : ℕ) → ((i : ℕ) → i < s → count i ≤ most_slots) → slots_below count s ≤ most_slots * s
 below_few count zero h = omega (arith, below_none count)
 below_few count (suc s) h = omega (arith, below_suc count s, h s (omega arith), below_few count s (λ i k. h i (omega arith)))
+
+-- they are the sum of those counts
+pub below_sum : (row : List ℕ) (s : ℕ) → s ≤ length row → sum_by (λ (x : ℕ). x) (take s row) ≡ slots_below (count_in row) s
+below_sum row zero h = sym (below_none (count_in row))
+below_sum row (suc s) h = let e = below_sum row s (omega arith) in let n = below_suc (count_in row) s in let l : s < length row = omega arith in rw (take-suc row s 0) (grind (arith, common_steps))

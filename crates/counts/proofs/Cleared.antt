@@ -8,8 +8,7 @@ use lib.Seq.{length-take-le, take_at, drop_at, drop-drop, take-append-le, drop-a
 use borrow.Rule.Slice.PartMut.{put_mid, mid_of}
 use Rattle.slots.specs.Slots.{slot_words}
 use Rattle.slots.proofs.Stored.{put_next, mid_next}
-use Rattle.counts.specs.declared.Row.TheVariants.{Right}
-use Rattle.counts.specs.Counts.{societies, all_slots, shelf_words, count_in, slots_below, slots_of, test_row, row_in, start_in, rest_of, cleared}
+use Rattle.counts.specs.Counts.{societies, all_slots, shelf_words, count_in, slots_below, slots_of, passed, test_row, row_in, start_in, rest_of, cleared}
 use Rattle.counts.proofs.Below.{below_apart}
 use Rattle.counts.proofs.Tests.{right_allotted}
 
@@ -25,7 +24,7 @@ drop_zeros k n h =
     ap (λ (m : ℕ). drop k (replicate {A = ℕ} m 0)) (sym e) ∙ ap (drop k) (sym (replicate-append-replicate {A = ℕ} k (n - k) 0)) ∙ drop_at (replicate k 0) (replicate (n - k) 0) k (length-replicate {A = ℕ} k 0)
 
 -- ---- a shelf cleared with a row that is right
-module _ (row : List ℕ) (len : length row ≡ societies) (e : test_row row ≡ Right) (xs : List ℕ) (long : length xs ≡ shelf_words) where
+module _ (row : List ℕ) (len : length row ≡ societies) (e : test_row row ≡ passed) (xs : List ℕ) (long : length xs ≡ shelf_words) where
   abbrev zeros : List ℕ
   zeros = replicate (slot_words * slots_of row) 0
 
@@ -66,12 +65,12 @@ module _ (row : List ℕ) (len : length row ≡ societies) (e : test_row row ≡
 
 -- ---- the row was copied over the front, and then the spans were zeroed
 pub cleared_is : (row xs a zs : List ℕ) (n e : ℕ) → length row ≡ societies → length xs ≡ shelf_words → slots_of row ≤ all_slots → n ≡ slots_of row → e ≡ societies + slot_words * n
-    → a ≡ row ++ drop (length row) xs → zs ≡ replicate (length (mid_of societies (e - societies) a)) 0 → put_mid societies (e - societies) a zs ≡ cleared row xs
+    → a ≡ put_mid 0 societies xs row → zs ≡ replicate (length (mid_of societies (e - societies) a)) 0 → put_mid societies (e - societies) a zs ≡ cleared row xs
 unfolding cleared
 cleared_is row xs a zs n e len long few en ee ea ez =
     let k = slot_words * slots_of row in
     let rest = drop societies xs in
-    let front : a ≡ row ++ rest = ea ∙ ap (λ (m : ℕ). row ++ drop m xs) len in
+    let front : a ≡ row ++ rest = ea in
     let size : e - societies ≡ k = ap (λ (m : ℕ). m - societies) (ee ∙ ap (λ (m : ℕ). societies + slot_words * m) en) ∙ omega arith in
     let mid : length (mid_of societies k a) ≡ k =
     ap (λ (x : List ℕ). length (mid_of societies k x)) front ∙ ap length (mid_next row rest societies len k) ∙ length-take-le k rest (rw length-drop (omega arith)) in

@@ -2,15 +2,13 @@
 // clearing.
 #![tactic(auto)]
 
-ghost use Rattle.std.specs.Prelude.{◌≡◌, ◌+◌, ◌*◌, ◌<◌, ◌≤◌, length, drop};
+ghost use Rattle.std.specs.Prelude.{◌≡◌, ◌+◌, ◌*◌, ◌<◌, ◌≤◌, length, [], ◌∷◌};
 ghost use Rattle.slots.specs.Slots.{slot_words};
-ghost use Rattle.counts.specs.declared.Row.TheVariants.{Right};
-ghost use Rattle.counts.specs.declared.Tested.TheVariants.{Passed, Refused};
-ghost use Rattle.counts.specs.Counts.{societies, shelf_words, count_in, slots_below, is_wrong, lowest_wrong, test_total, test_row, on_row, test_shelf, row_in, start_in, Ready, cleared};
+ghost use Rattle.counts.specs.Counts.{societies, shelf_words, count_in, slots_below, is_wrong, lowest_wrong, passed, test_total, test_row, test_length, test_shelf, row_in, start_in, Ready, cleared};
 ghost use Rattle.counts.specs.Given.{Counts};
 
-use slots::words::{copy_words, zero_words};
-use slots::{SLOT_WORDS, Slot};
+use refusals::Refusal;
+use slots::SLOT_WORDS;
 
 // The societies, the most slots of one and of all, and the words of a shelf.
 const SOCIETIES: usize = 8;
@@ -21,20 +19,6 @@ const ALL_SLOTS: usize = 32;
 
 const SHELF_WORDS: usize = 9192;
 
-// Whether a row of counts is allowed: it is, or it is wrong at a place.
-#[derive(Clone, Copy)]
-pub enum Row {
-    Right,
-    Wrong(usize),
-}
-
-// Whether a call on a shelf may go on: it may, or it is refused with a number and a place.
-#[derive(Clone, Copy)]
-pub enum Tested {
-    Passed,
-    Refused(u64, u64),
-}
-
 // Where a society's span starts and ends, and how many slots it has.
 #[derive(Clone, Copy)]
 pub struct Span {
@@ -43,37 +27,19 @@ pub struct Span {
     pub count: usize,
 }
 
-// The count at a word of the row is not 1 to 16.
-fn wrong_at(row: &[u32], at: usize) -> bool
-    requires { at < length row.now }
-    ensures { result ≡ is_wrong (drop at row.now) }
+// A count is not 1 to 16.
+fn is_wrong(count: u32) -> bool
+    ensures { result ≡ is_wrong (count ∷ []) }
 {
-    let count = row[at];
-    if count < 1 {
-        return true;
-    }
-    MOST_SLOTS < count
+    !(1..=MOST_SLOTS).contains(&count)
 }
 
 // The lowest society whose count is wrong.
-fn lowest_wrong(row: &[u32]) -> Slot
+fn lowest_wrong(row: &[u32]) -> Option<usize>
     requires { length row.now ≡ societies }
     ensures { result ≡ lowest_wrong row.now }
 {
-    let mut s: usize = 0;
-    while s < SOCIETIES {
-        if wrong_at(row, s) {
-            return Slot::At(s);
-        }
-        s += 1;
-    }
-    Slot::Nowhere
-}
-
-fn wide(x: u32) -> usize
-    ensures { result ≡ x }
-{
-    x as usize
+    row.iter().position(|count| is_wrong(*count))
 }
 
 // The slots of the societies below s.
@@ -81,70 +47,55 @@ fn slots_below(row: &[u32], s: usize) -> usize
     requires { Counts row.now s }
     ensures { result ≡ slots_below (count_in row.now) s }
 {
-    let mut i: usize = 0;
-    let mut slots: usize = 0;
-    while i < s {
-        let count = wide(row[i]);
-        slots = slots + count;
-        i += 1;
-    }
-    slots
+    row[..s].iter().map(|count| *count as usize).sum()
 }
 
 // The total of a row whose every count is 1 to 16.
-fn test_total(row: &[u32]) -> Row
+fn test_total(row: &[u32]) -> Result<(), Refusal>
     requires { Counts row.now societies }
     ensures { result ≡ test_total row.now }
 {
-    let slots = slots_below(row, SOCIETIES);
-    if slots <= ALL_SLOTS {
-        return Row::Right;
+    if ALL_SLOTS < slots_below(row, SOCIETIES) {
+        return Err(Refusal::CountsNotAllowed(SOCIETIES));
     }
-    Row::Wrong(SOCIETIES)
+    Ok(())
 }
 
 // Whether a row of counts is allowed.
-fn test_row(row: &[u32]) -> Row
+fn test_row(row: &[u32]) -> Result<(), Refusal>
     requires { length row.now ≡ societies }
     ensures { result ≡ test_row row.now }
 {
-    let found = lowest_wrong(row);
-    match found {
-        Slot::At(society) => Row::Wrong(society),
-        Slot::Nowhere => test_total(row),
+    if let Some(society) = lowest_wrong(row) {
+        return Err(Refusal::CountsNotAllowed(society));
     }
+    test_total(row)
 }
 
-// The test of counts as that of a shelf that has all its words.
-fn test_counts(row: &[u32]) -> Tested
-    requires { length row.now ≡ societies }
-    ensures { result ≡ on_row (test_row row.now) Passed (λ place. Refused 22 place) }
+// Whether a shelf has all its words.
+fn test_length(shelf: &[u32]) -> Result<(), Refusal>
+    ensures { result ≡ test_length shelf.now }
 {
-    let found = test_row(row);
-    match found {
-        Row::Right => Tested::Passed,
-        Row::Wrong(place) => Tested::Refused(22, place as u64),
+    if shelf.len() != SHELF_WORDS {
+        return Err(Refusal::NoRoom(SHELF_WORDS));
     }
+    Ok(())
 }
 
 // Whether a society's call on a shelf may go on: its length, then its leading row.
-pub fn test_shelf(shelf: &[u32]) -> Tested
+pub fn test_shelf(shelf: &[u32]) -> Result<(), Refusal>
     ensures { result ≡ test_shelf (row_in shelf.now) shelf.now }
 {
-    if shelf.len() != SHELF_WORDS {
-        return Tested::Refused(13, SHELF_WORDS as u64);
-    }
-    test_counts(&shelf[0..SOCIETIES])
+    test_length(shelf)?;
+    test_row(&shelf[..SOCIETIES])
 }
 
 // Whether a clearing with those counts may go on: the shelf's length, then the counts.
-pub fn test_clearing(shelf: &[u32], counts: &[u32; 8]) -> Tested
+pub fn test_clearing(shelf: &[u32], counts: &[u32; 8]) -> Result<(), Refusal>
     ensures { result ≡ test_shelf (row_in counts.now) shelf.now }
 {
-    if shelf.len() != SHELF_WORDS {
-        return Tested::Refused(13, SHELF_WORDS as u64);
-    }
-    test_counts(counts)
+    test_length(shelf)?;
+    test_row(counts)
 }
 
 // The span of a society, which has so many slots.
@@ -155,24 +106,20 @@ pub fn span_of(shelf: &[u32], society: usize) -> Span
     ensures end { result.end ≡ result.start + slot_words * result.count }
     ensures inside { (0 < result.count) × (result.end ≤ shelf_words) }
 {
-    let below = slots_below(&shelf[0..SOCIETIES], society);
+    let below = slots_below(&shelf[..SOCIETIES], society);
     let start = SOCIETIES + SLOT_WORDS * below;
-    let count = wide(shelf[society]);
+    let count = shelf[society] as usize;
     let end = start + SLOT_WORDS * count;
-    Span {
-        start: start,
-        end: end,
-        count: count,
-    }
+    Span { start, end, count }
 }
 
 // The row becomes the counts, their spans zeros, and the rest stays.
 pub fn clear_spans(shelf: &mut [u32], counts: &[u32])
-    requires { (length shelf.old ≡ shelf_words) × (length counts.now ≡ societies) × (test_row counts.now ≡ Right) }
+    requires { (length shelf.old ≡ shelf_words) × (length counts.now ≡ societies) × (test_row counts.now ≡ passed) }
     ensures { shelf.new ≡ cleared counts.now shelf.old }
 {
     let slots = slots_below(counts, SOCIETIES);
     let e = SOCIETIES + SLOT_WORDS * slots;
-    copy_words(shelf, counts);
-    zero_words(&mut shelf[SOCIETIES..e]);
+    shelf[..SOCIETIES].copy_from_slice(counts);
+    shelf[SOCIETIES..e].fill(0);
 }

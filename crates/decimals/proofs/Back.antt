@@ -8,10 +8,8 @@ use native.Mathlib.Omega.{arith}
 use borrow.Author.Tests.{ltb-false, eqb-false, lt-ltb, ne_eqb}
 use lib.Dec.{ltb, eqb}
 use lib.ListN.{length, get_or}
-use Rattle.std.specs.Prelude.{if◌then◌else◌}
+use Rattle.std.specs.Prelude.{Option, Some, None, if◌then◌else◌}
 use Rattle.numbers.proofs.Clash.{clash}
-use Rattle.decimals.specs.declared.reading.Whole.{Whole}
-use Rattle.decimals.specs.declared.reading.Whole.TheVariants.{Number, Malformed}
 use Rattle.decimals.specs.Decimal.{digits_in, decimal}
 use Rattle.decimals.specs.Whole.{largest, digit_after, value_from, leading_zero, whole_of}
 use Rattle.decimals.specs.Promises.{numeral, AllDigits, WholesReadBack, WholesWrittenBack}
@@ -23,7 +21,7 @@ grows : (before : ℕ) (s : List ℕ) → before ≤ numeral before s
 grows before [] = omega arith
 grows before (b ∷ s) = omega (arith, grows (10 * before + (b - 48)) s)
 
-value_reads : (before : ℕ) (s : List ℕ) → AllDigits s → numeral before s ≤ largest → value_from before s ≡ Number (numeral before s)
+value_reads : (before : ℕ) (s : List ℕ) → AllDigits s → numeral before s ≤ largest → value_from before s ≡ Some (numeral before s)
 value_reads before [] a h = value_nil before
 value_reads before (b ∷ s) a h =
     value_cons before b s (sym (digit_good before b (b - 48) a.0.0 a.0.1 refl (omega (arith, grows (10 * before + (b - 48)) s))))
@@ -49,14 +47,14 @@ starts : (s : List ℕ) → 48 < get_or s 0 0 → length s ≡ 0 → ⊥
 starts [] h e = omega arith
 starts (b ∷ s) h e = omega arith
 
-large_read : (x : ℕ) → 1 ≤ x → x ≤ largest → whole_of (decimal x) ≡ Number x
+large_read : (x : ℕ) → 1 ≤ x → x ≤ largest → whole_of (decimal x) ≡ Some x
 large_read x h l =
     let first = first_digit 20 x h (omega arith) in
     let back = decimals_read_back x (omega arith) in
     let not_zero : eqb (get_or (decimal x) 0 0) 48 ≡ false = ne_eqb (get_or (decimal x) 0 0) 48 (λ q. omega arith) in
     sym (not_led (decimal x) (starts (decimal x) first) (rw not_zero))
     ∙ value_reads 0 (decimal x) back.0 (omega (arith, back.1))
-    ∙ ap Number back.1
+    ∙ ap Some back.1
 
 pub wholes_read_back : WholesReadBack
 wholes_read_back zero h = ap whole_of (digits_one 0 (omega arith)) ∙ sym (not_led (48 ∷ []) (λ e. omega arith) refl) ∙ value_reads 0 (48 ∷ []) ((omega arith, omega arith), tt) (omega arith)
@@ -68,12 +66,12 @@ record Valued (before : ℕ) (s : List ℕ) (x : ℕ) : Type 0 where
   stands : numeral before s ≡ x
   small : x ≤ largest
 
-valued : (before : ℕ) (s : List ℕ) (x : ℕ) → before ≤ largest → value_from before s ≡ Number x → Valued before s x
+valued : (before : ℕ) (s : List ℕ) (x : ℕ) → before ≤ largest → value_from before s ≡ Some x → Valued before s x
 valued before [] x l e = let q : before ≡ x = cc (value_nil before) in record { digits = tt; stands = q; small = omega arith }
 valued before (b ∷ s) x l e = go (digit_after before b) refl (λ v. valued v s x)
   where
-    go : (w : Whole) → digit_after before b ≡ w → ((v : ℕ) → v ≤ largest → value_from v s ≡ Number x → Valued v s x) → Valued before (b ∷ s) x
-    go (Number v) q ih =
+    go : (w : Option ℕ) → digit_after before b ≡ w → ((v : ℕ) → v ≤ largest → value_from v s ≡ Some x → Valued v s x) → Valued before (b ∷ s) x
+    go (Some v) q ih =
         let c = digit_counts before b v q in
         let rest = ih v c.small (sym (value_cons before b s q) ∙ e) in
         record {
@@ -81,7 +79,7 @@ valued before (b ∷ s) x l e = go (digit_after before b) refl (λ v. valued v s
           stands = ap (λ (n : ℕ). numeral n s) (sym c.made) ∙ rest.stands;
           small = rest.small;
         }
-    go Malformed q ih = let z : ◌≡◌ {A = ℕ} 0 1 = cc (value_bad before b s q) in absurd (omega arith)
+    go None q ih = let z : ◌≡◌ {A = ℕ} 0 1 = cc (value_bad before b s q) in absurd (omega arith)
 
 -- digits after a number that is not 0 are written after its own
 longer : (v : ℕ) (s : List ℕ) → 1 ≤ v → AllDigits s → numeral v s ≤ largest → decimal (numeral v s) ≡ decimal v ++ s
@@ -124,7 +122,7 @@ decimal_of (b ∷ c ∷ s) some led a l = go (eqb b 48) refl
 pub wholes_written_back : WholesWrittenBack
 wholes_written_back s x e = go (eqb (length s) 0) refl (leading_zero s) refl
   where
-    absurdly : (w : Whole) → Malformed ≡ w → w ≡ Number x → (s ≡ decimal x) × (x ≤ largest)
+    absurdly : (w : Option ℕ) → None ≡ w → w ≡ Some x → (s ≡ decimal x) × (x ≤ largest)
     absurdly w p q = clash (cc)
 
     go : (t : Bool) → eqb (length s) 0 ≡ t → (u : Bool) → leading_zero s ≡ u → (s ≡ decimal x) × (x ≤ largest)

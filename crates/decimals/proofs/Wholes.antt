@@ -5,30 +5,19 @@ use mathlib.Core.Bool.{Bool, true, false, ◌&&◌}
 use mathlib.Core.List.{List, [], ◌∷◌}
 use native.Mathlib.Numerals.{add-one}
 use native.Mathlib.Omega.{arith}
-use borrow.Author.Tests.{leb-true, le-leb, lt-leb, le-ltb, lt-ltb, eq-eqb, ne_eqb}
-use lib.Dec.{leb, eqb}
+use borrow.Author.Tests.{leb-true, le-leb, ne_eqb}
+use lib.Dec.{leb}
 use lib.ListN.{length, get_or, drop, drop_of_length-le}
 use lib.Seq.{drop-cons}
-use Rattle.std.specs.Prelude.{if◌then◌else◌}
+use Rattle.std.specs.Prelude.{Option, Some, None, if◌then◌else◌}
 use Rattle.numbers.proofs.Clash.{clash}
 use Rattle.numbers.proofs.Both.{both}
-use Rattle.decimals.specs.declared.reading.Whole.{Whole}
-use Rattle.decimals.specs.declared.reading.Whole.TheVariants.{Number, Malformed}
 use Rattle.decimals.specs.Whole.{largest, is_digit, digit_after, on_digit, value_from, leading_zero, whole_of}
 
 -- ---- one byte
-pub digit_low : (before b : ℕ) → b < 48 → Malformed ≡ digit_after before b
-digit_low before b h = rw (lt-leb 48 b h)
-
-pub digit_high : (before b : ℕ) → 57 < b → Malformed ≡ digit_after before b
-digit_high before b h = rw (le-leb 48 b (omega arith), lt-leb b 57 h)
-
 module _ (before b d : ℕ) (low : 48 ≤ b) (high : b ≤ 57) (e : d ≡ b - 48) where
-  pub digit_good : 10 * before + d ≤ largest → Number (10 * before + d) ≡ digit_after before b
+  pub digit_good : 10 * before + d ≤ largest → Some (10 * before + d) ≡ digit_after before b
   digit_good h = rw (e, le-leb 48 b low, le-leb b 57 high, le-leb (10 * before + (b - 48)) largest (omega arith))
-
-  pub digit_large : largest < 10 * before + d → Malformed ≡ digit_after before b
-  digit_large h = rw (le-leb 48 b low, le-leb b 57 high, lt-leb (10 * before + (b - 48)) largest (omega arith))
 
 -- a byte that counts is a digit, and what it makes is not too large
 pub record Counts (before b value : ℕ) : Type 0 where
@@ -37,10 +26,10 @@ pub record Counts (before b value : ℕ) : Type 0 where
   pub made : value ≡ 10 * before + (b - 48)
   pub small : value ≤ largest
 
-pub digit_counts : (before b value : ℕ) → digit_after before b ≡ Number value → Counts before b value
+pub digit_counts : (before b value : ℕ) → digit_after before b ≡ Some value → Counts before b value
 digit_counts before b value e = go (is_digit b && leb (10 * before + (b - 48)) largest) refl e
   where
-    go : (t : Bool) → is_digit b && leb (10 * before + (b - 48)) largest ≡ t → (if t then Number (10 * before + (b - 48)) else Malformed) ≡ Number value → Counts before b value
+    go : (t : Bool) → is_digit b && leb (10 * before + (b - 48)) largest ≡ t → (if t then Some (10 * before + (b - 48)) else None) ≡ Some value → Counts before b value
     go true q e =
         let made : 10 * before + (b - 48) ≡ value = cc in
         let tests = both (is_digit b) (leb (10 * before + (b - 48)) largest) q in
@@ -54,28 +43,8 @@ digit_counts before b value e = go (is_digit b && leb (10 * before + (b - 48)) l
     go false q e = clash (cc)
 
 -- ---- the tests before the digits
-pub no_field : (s : List ℕ) → length s ≡ 0 → Malformed ≡ whole_of s
-no_field s h = rw (eq-eqb (length s) 0 h)
-
-pub zero_led : (s : List ℕ) → (length s ≡ 0 → ⊥) → leading_zero s ≡ true → Malformed ≡ whole_of s
-zero_led s h e = rw (ne_eqb (length s) 0 h, e)
-
 pub not_led : (s : List ℕ) → (length s ≡ 0 → ⊥) → leading_zero s ≡ false → value_from 0 s ≡ whole_of s
 not_led s h e = rw (ne_eqb (length s) 0 h, e)
-
-and_false : (t : Bool) → t && false ≡ false
-and_false true = refl
-and_false false = refl
-
-and_true : (t : Bool) → t && true ≡ t
-and_true true = refl
-and_true false = refl
-
-pub short_not_led : (s : List ℕ) → length s ≤ 1 → false ≡ leading_zero s
-short_not_led s h = rw (le-ltb 1 (length s) h) (sym (and_false (eqb (get_or s 0 0) 48)))
-
-pub long_led : (s : List ℕ) → 1 < length s → eqb (get_or s 0 0) 48 ≡ leading_zero s
-long_led s h = rw (lt-ltb 1 (length s) h) (sym (and_true (eqb (get_or s 0 0) 48)))
 
 -- ---- the loop: the bytes from i on, after digits that come to `value`, are worth what the field is
 pub record Reading (s : List ℕ) (i value : ℕ) : Type 0 where
@@ -83,14 +52,11 @@ pub record Reading (s : List ℕ) (i value : ℕ) : Type 0 where
   pub small : value ≤ largest
   pub same : value_from value (drop i s) ≡ whole_of s
 
-pub reading_start : (s : List ℕ) → (length s ≡ 0 → ⊥) → leading_zero s ≡ false → Reading s 0 0
-reading_start s h e = record { within = omega arith; small = omega arith; same = not_led s h e }
-
 value_step : (value b : ℕ) (s : List ℕ) → value_from value (b ∷ s) ≡ on_digit (digit_after value b) (λ v. value_from v s)
 unfolding value_from
 value_step value b s = refl
 
-value_done : (value : ℕ) → value_from value [] ≡ Number value
+value_done : (value : ℕ) → value_from value [] ≡ Some value
 unfolding value_from
 value_done value = refl
 
@@ -98,26 +64,26 @@ module _ {s : List ℕ} {i value : ℕ} (R : Reading s i value) where
   here : i < length s → on_digit (digit_after value (get_or s i 0)) (λ v. value_from v (drop (suc i) s)) ≡ whole_of s
   here h = sym (value_step value (get_or s i 0) (drop (suc i) s)) ∙ ap (value_from value) (sym (drop-cons s i 0 h)) ∙ R.same
 
-  pub reading_go : i < length s → {next : ℕ} → digit_after value (get_or s i 0) ≡ Number next → Reading s (i + 1) next
+  pub reading_go : i < length s → {next : ℕ} → digit_after value (get_or s i 0) ≡ Some next → Reading s (i + 1) next
   reading_go h {next} e =
       record {
         within = omega arith;
         small = (digit_counts value (get_or s i 0) next e).small;
-        same = rw add-one (ap (λ (w : Whole). on_digit w (λ v. value_from v (drop (suc i) s))) (sym e) ∙ here h);
+        same = rw add-one (ap (λ (w : Option ℕ). on_digit w (λ v. value_from v (drop (suc i) s))) (sym e) ∙ here h);
       }
 
-  pub reading_bad : i < length s → digit_after value (get_or s i 0) ≡ Malformed → Malformed ≡ whole_of s
-  reading_bad h e = ap (λ (w : Whole). on_digit w (λ v. value_from v (drop (suc i) s))) (sym e) ∙ here h
+  pub reading_bad : i < length s → digit_after value (get_or s i 0) ≡ None → None ≡ whole_of s
+  reading_bad h e = ap (λ (w : Option ℕ). on_digit w (λ v. value_from v (drop (suc i) s))) (sym e) ∙ here h
 
-  pub reading_end : length s ≤ i → Number value ≡ whole_of s
+  pub reading_end : length s ≤ i → Some value ≡ whole_of s
   reading_end h = sym (value_done value) ∙ ap (value_from value) (sym (drop_of_length-le s {i = i} h)) ∙ R.same
 
 -- ---- the digits, as numbers of their own
-pub value_cons : (value b : ℕ) (s : List ℕ) {v : ℕ} → digit_after value b ≡ Number v → value_from value (b ∷ s) ≡ value_from v s
-value_cons value b s e = value_step value b s ∙ ap (λ (w : Whole). on_digit w (λ v. value_from v s)) e
+pub value_cons : (value b : ℕ) (s : List ℕ) {v : ℕ} → digit_after value b ≡ Some v → value_from value (b ∷ s) ≡ value_from v s
+value_cons value b s e = value_step value b s ∙ ap (λ (w : Option ℕ). on_digit w (λ v. value_from v s)) e
 
-pub value_nil : (value : ℕ) → value_from value [] ≡ Number value
+pub value_nil : (value : ℕ) → value_from value [] ≡ Some value
 value_nil value = value_done value
 
-pub value_bad : (value b : ℕ) (s : List ℕ) → digit_after value b ≡ Malformed → value_from value (b ∷ s) ≡ Malformed
-value_bad value b s e = value_step value b s ∙ ap (λ (w : Whole). on_digit w (λ v. value_from v s)) e
+pub value_bad : (value b : ℕ) (s : List ℕ) → digit_after value b ≡ None → value_from value (b ∷ s) ≡ None
+value_bad value b s e = value_step value b s ∙ ap (λ (w : Option ℕ). on_digit w (λ v. value_from v s)) e

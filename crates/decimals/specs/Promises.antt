@@ -1,6 +1,5 @@
 -- What is promised of decimal numbers.
-use Rattle.std.specs.Prelude.{ℕ, suc, ◌+◌, ◌-◌, ◌*◌, ◌^◌, ◌≤◌, ◌<◌, ◌≡◌, List, [], ◌∷◌, length}
-use Rattle.decimals.specs.declared.reading.Whole.TheVariants.{Number}
+use Rattle.std.specs.Prelude.{ℕ, suc, ◌+◌, ◌-◌, ◌*◌, ◌^◌, ◌≤◌, ◌<◌, ◌≡◌, Some, List, [], ◌∷◌, length}
 use Rattle.decimals.specs.Decimal.{decimal}
 use Rattle.decimals.specs.Whole.{largest, whole_of}
 
@@ -23,7 +22,7 @@ DecimalsShortest = (k x : ℕ) → x < 10 ^ suc k → length (decimal x) ≤ suc
 
 -- A field stands for a number exactly if it is the number in decimal and the number is at most 10^9.
 abbrev pub WholesReadBack : Type 0
-WholesReadBack = (x : ℕ) → x ≤ largest → whole_of (decimal x) ≡ Number x
+WholesReadBack = (x : ℕ) → x ≤ largest → whole_of (decimal x) ≡ Some x
 
 abbrev pub WholesWrittenBack : Type 0
-WholesWrittenBack = (s : List ℕ) (x : ℕ) → whole_of s ≡ Number x → (s ≡ decimal x) × (x ≤ largest)
+WholesWrittenBack = (s : List ℕ) (x : ℕ) → whole_of s ≡ Some x → (s ≡ decimal x) × (x ≤ largest)

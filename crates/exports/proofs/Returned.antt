@@ -1,5 +1,5 @@
 -- An export read back gives the same values, and what was read, written back, gives the same text up to the last line's end.
-use Prim.Native.Nat.{ℕ, suc, ◌+◌, ◌-◌, ◌≤◌}
+use Prim.Native.Nat.{ℕ, suc, ◌+◌, ◌≤◌}
 use mathlib.Core.Path.{◌≡◌, refl, sym, ap, ap₂, ◌∙◌}
 use mathlib.Core.Logic.{◌⊎◌, inl, inr}
 use mathlib.Core.Bool.{Bool, true, false}
@@ -10,8 +10,9 @@ use lib.Dec.{eqb, ltb, leb}
 use lib.ListN.{length}
 use Rattle.std.specs.Prelude.{if◌then◌else◌}
 use Rattle.numbers.proofs.Clash.{clash}
-use Rattle.packs.specs.declared.Outcome.{Outcome}
-use Rattle.packs.specs.declared.Outcome.TheVariants.{Done, Refused}
+use Rattle.packs.specs.Reading.{Outcome}
+use Rattle.std.specs.Prelude.{Ok, Err}
+use Rattle.refusals.specs.declared.Refusal.TheVariants.{NotAllowed, NoRoom}
 use Rattle.decimals.specs.Decimal.{decimal}
 use Rattle.decimals.specs.Whole.{largest}
 use Rattle.decimals.proofs.Digits.{decimals_read_back}
@@ -93,13 +94,13 @@ text_lines first rates f =
     ∙ ap (λ (ls : List (List ℕ)). rates_header ∷ ls) (export_lines_lem first rates f)
 
 handed : (room : ℕ) (rates : List ℕ) → 1 ≤ length rates → length rates ≤ room → (n : ℕ) → n ≡ length rates
-    → handed_rates room rates (Done n) ≡ record { values = rates; outcome = Done (length rates) }
+    → handed_rates room rates (Ok n) ≡ record { values = rates; outcome = Ok (length rates) }
 handed room rates some h n e =
-    ap (λ (k : ℕ). handed_rates room rates (Done k)) e
+    ap (λ (k : ℕ). handed_rates room rates (Ok k)) e
     ∙ rw (ne_eqb (length rates) 0 (λ z. omega arith), le-ltb room (length rates) h)
 
 read : (room : ℕ) (text exposures rates : List ℕ) → ListText false text exposures rates → 1 ≤ length rates → length rates ≤ room
-    → rates_of room text ≡ record { values = rates; outcome = Done (length rates) }
+    → rates_of room text ≡ record { values = rates; outcome = Ok (length rates) }
 read room text exposures rates L some h =
     let r = read_exactly.read false text exposures rates L in
     ap₂ (handed_rates room) r.1 r.2 ∙ handed room rates some h (length exposures) (same_length L.listing)
@@ -134,20 +135,20 @@ written_text text {counts = counts} W =
 
 -- the values handed out, or a refusal
 abbrev given : (n : ℕ) (values : List ℕ) → (empty short : Bool) → Rated
-given n values empty short = if empty then no_rates 2 0 else if short then no_rates 13 n else record { values = values; outcome = Done n }
+given n values empty short = if empty then no_rates (NotAllowed 0) else if short then no_rates (NoRoom n) else record { values = values; outcome = Ok n }
 
 -- where reading is done, the values are those of the lines, and there is at least one and room for all
 record Handed (room : ℕ) (values : List ℕ) (n : ℕ) (o : Outcome) : Type 0 where
-  done : o ≡ Done n
+  done : o ≡ Ok n
   same : (handed_rates room values o).values ≡ values
   some : 1 ≤ n
   fits : n ≤ room
 
-handed_done : (room : ℕ) (values : List ℕ) (o : Outcome) (n : ℕ) → (handed_rates room values o).outcome ≡ Done n → Handed room values n o
-handed_done room values (Refused number place) n e = clash (cc)
-handed_done room values (Done m) n e = go (eqb m 0) (ltb room m) refl refl e
+handed_done : (room : ℕ) (values : List ℕ) (o : Outcome) (n : ℕ) → (handed_rates room values o).outcome ≡ Ok n → Handed room values n o
+handed_done room values (Err r) n e = clash (cc)
+handed_done room values (Ok m) n e = go (eqb m 0) (ltb room m) refl refl e
   where
-    go : (t u : Bool) → eqb m 0 ≡ t → ltb room m ≡ u → (given m values t u).outcome ≡ Done n → Handed room values n (Done m)
+    go : (t u : Bool) → eqb m 0 ≡ t → ltb room m ≡ u → (given m values t u).outcome ≡ Ok n → Handed room values n (Ok m)
     go true u p q e = clash (cc)
     go false true p q e = clash (cc)
     go false false p q e =
@@ -163,7 +164,7 @@ up_to_end : {a b text : List ℕ} → a ≡ b → (b ≡ text) ⊎ (b ≡ text +
 up_to_end e (inl q) = inl (e ∙ q)
 up_to_end e (inr q) = inr (e ∙ q)
 
-module _ (room : ℕ) (text : List ℕ) (n : ℕ) (e : (rates_of room text).outcome ≡ Done n) where
+module _ (room : ℕ) (text : List ℕ) (n : ℕ) (e : (rates_of room text).outcome ≡ Ok n) where
   handed_out_lem : Handed room (listed_of false (lines_of text)).counts n (listed_of false (lines_of text)).outcome
   handed_out_lem = handed_done room (listed_of false (lines_of text)).counts (listed_of false (lines_of text)).outcome n e
 
@@ -188,5 +189,5 @@ read_back_exactly =
     record {
       read = read;
       only = only;
-      faulty = λ room text number place e. ap (handed_rates room (listed_of false (lines_of text)).counts) e;
+      faulty = λ room text r e. ap (handed_rates room (listed_of false (lines_of text)).counts) e;
     }

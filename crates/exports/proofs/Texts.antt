@@ -6,38 +6,24 @@ use mathlib.Core.List.{List, [], ◌∷◌, ◌++◌, append_assoc, append-nil}
 use native.Mathlib.Nat.{zero-add, add-zero}
 use native.Mathlib.Numerals.{add-one}
 use native.Mathlib.Omega.{arith}
-use borrow.Author.Tests.{lt-leb, le-leb, lt-ltb, le-ltb, leb-true}
+use borrow.Author.Tests.{lt-ltb, le-ltb, leb-true}
 use lib.Dec.{leb}
-use lib.ListN.{length, get_or, set, take, drop, length-append, take-append-drop, drop_of_length-le}
-use lib.Seq.{take-suc, take_all, drop-cons, length-take-le}
+use lib.ListN.{length, get_or, take, drop, length-append, take-append-drop}
+use lib.Seq.{take-suc, drop-cons, length-take-le}
+use Rattle.std.specs.List.{list_all}
 use Rattle.std.specs.Prelude.{if◌then◌else◌}
-use Rattle.packs.specs.declared.Outcome.TheVariants.{Done, Refused}
+use Rattle.std.specs.Prelude.{Ok, Err}
+use Rattle.refusals.specs.declared.Refusal.TheVariants.{NotAllowed, NoRoom}
 use Rattle.packs.specs.Writing.{Written, refused, in_room, Leaves}
 use Rattle.decimals.specs.Decimal.{decimal}
 use Rattle.decimals.specs.Puts.{Puts, Room}
 use Rattle.decimals.specs.Whole.{largest}
 use Rattle.decimals.proofs.Digits.{digits_most}
-use Rattle.decimals.proofs.Stores.{puts_then, puts_same, puts_length, room_first, room_then, room_same}
+use Rattle.decimals.proofs.Stores.{puts_then, puts_same, room_first, room_then, room_same}
 use Rattle.numbers.proofs.Both.{both}
 use Rattle.lists.specs.Cut.{line_end}
 use Rattle.lists.specs.Lines.{rates_header, most_lines}
 use Rattle.exports.specs.Exports.{export_line, export_lines, export_text, all_upto, exportable, export_of}
-
--- ---- bytes put one after another
-module _ (part : List ℕ) {out₀ out : List ℕ} {at next i : ℕ} (P : Puts (take i part) out₀ at next out) where
-  pub bytes_room : Room part at out₀ → i < length part → next < length out
-  bytes_room room h = omega (arith, room.fits, P.next, puts_length P, length-take-le i part (omega arith))
-
-  pub bytes_more : i < length part → Puts (take (i + 1) part) out₀ at (next + 1) (set out next (get_or part i 0))
-  bytes_more h =
-      let more : take i part ++ (get_or part i 0 ∷ []) ≡ take (i + 1) part = sym (take-suc part i 0 h) ∙ ap (λ (n : ℕ). take n part) (sym (add-one i)) in
-      puts_same more (puts_then P (record { next = refl; stored = refl }))
-
-  pub bytes_all : length part ≤ i → Puts part out₀ at next out
-  bytes_all h = puts_same (take_all i part h) P
-
-pub bytes_none : (part out : List ℕ) (at : ℕ) → Puts (take 0 part) out at at out
-bytes_none part out at = record { next = sym (add-zero at); stored = refl }
 
 -- ---- how long
 pub line_length : (age rate : ℕ) {a b : ℕ} → a ≡ length (decimal age) → b ≡ length (decimal rate) → a ≤ 20 → b ≤ 20
@@ -93,10 +79,6 @@ module _ (first : ℕ) (rates : List ℕ) (i : ℕ) (h : i < length rates) {age 
 pub lines_none_put : (first : ℕ) (rates out : List ℕ) (at : ℕ) → Puts (export_lines first (take 0 rates)) out at at out
 lines_none_put first rates out at = puts_same (sym (lines_nil first)) (record { next = sym (add-zero at); stored = refl })
 
-pub lines_all_put : (first : ℕ) (rates : List ℕ) (i : ℕ) → length rates ≤ i → {out₀ out : List ℕ} {at next : ℕ} → Puts (export_lines first (take i rates)) out₀ at next out
-    → Puts (export_lines first rates) out₀ at next out
-lines_all_put first rates i h P = puts_same (ap (export_lines first) (take_all i rates h)) P
-
 -- ---- the count of bytes
 pub record Sizing (first : ℕ) (rates : List ℕ) (total age i : ℕ) : Type 0 where
   pub within : i ≤ length rates
@@ -124,49 +106,18 @@ sizing_go {first} {rates} {total} {age} {i} S h {size} e =
       small = omega (arith, S.small, e.1);
     }
 
-pub sizing_end : {first : ℕ} {rates : List ℕ} {total age i : ℕ} → Sizing first rates total age i → length rates ≤ i → length rates ≤ 120
-    → (total ≡ length (export_lines first rates)) × (total ≤ 5160)
-sizing_end {first} {rates} {i = i} S h few =
-    (S.counted ∙ ap (λ (l : List ℕ). length (export_lines first l)) (take_all i rates h), omega (arith, S.small, S.within))
-
 -- ---- rates up to a most
 pub upto_cons : (most x : ℕ) (xs : List ℕ) → all_upto most (x ∷ xs) ≡ leb x most && all_upto most xs
 unfolding all_upto
 upto_cons most x xs = refl
 
-upto_nil : (most : ℕ) → all_upto most [] ≡ true
+-- the library's test of all, at this test
+pub upto_all : (most : ℕ) (xs : List ℕ) → list_all (λ x. leb x most) xs ≡ all_upto most xs
 unfolding all_upto
-upto_nil most = refl
-
-module _ (most : ℕ) (xs : List ℕ) (i : ℕ) (same : all_upto most (drop i xs) ≡ all_upto most xs) where
-  here : i < length xs → all_upto most xs ≡ leb (get_or xs i 0) most && all_upto most (drop (suc i) xs)
-  here h = sym same ∙ ap (all_upto most) (drop-cons xs i 0 h) ∙ upto_cons most (get_or xs i 0) (drop (suc i) xs)
-
-  pub upto_bad : i < length xs → most < get_or xs i 0 → false ≡ all_upto most xs
-  upto_bad h l = sym (here h ∙ rw (lt-leb (get_or xs i 0) most l))
-
-  pub upto_on : i < length xs → get_or xs i 0 ≤ most → all_upto most (drop (i + 1) xs) ≡ all_upto most xs
-  upto_on h l = ap (λ (n : ℕ). all_upto most (drop n xs)) (add-one i) ∙ sym (here h ∙ rw (le-leb (get_or xs i 0) most l))
-
-  pub upto_end : length xs ≤ i → true ≡ all_upto most xs
-  upto_end h = sym (ap (all_upto most) (drop_of_length-le xs {i = i} h) ∙ upto_nil most) ∙ same
+upto_all most [] = refl
+upto_all most (x ∷ xs) = ap (λ (t : Bool). leb x most && t) (upto_all most xs)
 
 -- ---- what may go out
-module _ (first : ℕ) (rates : List ℕ) where
-  pub none_out : length rates < 1 → false ≡ exportable first rates
-  none_out h = rw (lt-leb 1 (length rates) h)
-
-  module _ (some : 1 ≤ length rates) where
-    pub many_out : most_lines < length rates → false ≡ exportable first rates
-    many_out h = rw (le-leb 1 (length rates) some, lt-leb (length rates) most_lines h)
-
-    module _ (few : length rates ≤ most_lines) where
-      pub old_out : largest < first + (length rates - 1) → false ≡ exportable first rates
-      old_out h = rw (le-leb 1 (length rates) some, le-leb (length rates) most_lines few, lt-leb (first + (length rates - 1)) largest h)
-
-      pub all_out : first + (length rates - 1) ≤ largest → {r : Bool} → r ≡ all_upto largest rates → r ≡ exportable first rates
-      all_out h e = rw (le-leb 1 (length rates) some, le-leb (length rates) most_lines few, le-leb (first + (length rates - 1)) largest h) e
-
 -- what may go out is small
 pub record Out (first : ℕ) (rates : List ℕ) : Type 0 where
   pub some : 1 ≤ length rates
@@ -179,16 +130,16 @@ pub text_length : (first : ℕ) (rates : List ℕ) {n : ℕ} → n ≡ length (e
 text_length first rates e = omega (arith, e, length-append (rates_header ++ line_end) (export_lines first rates))
 
 pub no_room : (first : ℕ) (rates out : List ℕ) {n : ℕ} → n ≡ length (export_text first rates) → length out < n
-    → Leaves (in_room (length out) (export_text first rates) (Done (length (export_text first rates)))) out (Refused 13 n) out
+    → Leaves (in_room (length out) (export_text first rates) (Ok (length (export_text first rates)))) out (Err (NoRoom n)) out
 no_room first rates out e h = rw (← e, lt-ltb _ _ h) (refl, refl)
 
 pub room_for : (first : ℕ) (rates out : List ℕ) {n : ℕ} → n ≡ length (export_text first rates) → n ≤ length out → {after : List ℕ} {end : ℕ}
     → Puts (export_text first rates) out 0 end after
-    → Leaves (in_room (length out) (export_text first rates) (Done (length (export_text first rates)))) out (Done end) after
+    → Leaves (in_room (length out) (export_text first rates) (Ok (length (export_text first rates)))) out (Ok end) after
 room_for first rates out {n} e h {after} {end} P =
     let count : end ≡ length (export_text first rates) = P.next ∙ zero-add (length (export_text first rates)) in
     let fits : length (export_text first rates) ≤ length out = omega (arith, e) in
-    rw (le-ltb (length out) (length (export_text first rates)) fits) (ap Done count, P.stored)
+    rw (le-ltb (length out) (length (export_text first rates)) fits) (ap Ok count, P.stored)
 
 -- room for the header, and for the lines after it
 whole_room : (first : ℕ) (rates out : List ℕ) {n : ℕ} → n ≡ length (export_text first rates) → n ≤ length out → Room (export_text first rates) 0 out
@@ -232,10 +183,10 @@ pub text_short : (first : ℕ) (rates : List ℕ) → length rates ≤ 120 → l
 text_short first rates h = omega (arith, text_length first rates refl, lines_short first rates)
 
 -- the two ways in which an export ends: 2, or a text of that length
-pub export_cases : (P : Written → Type 0) (room first : ℕ) (rates : List ℕ) → P (refused 2 0)
-    → (length (export_text first rates) ≤ 5170 → P (in_room room (export_text first rates) (Done (length (export_text first rates))))) → P (export_of room first rates)
+pub export_cases : (P : Written → Type 0) (room first : ℕ) (rates : List ℕ) → P (refused (NotAllowed 0))
+    → (length (export_text first rates) ≤ 5170 → P (in_room room (export_text first rates) (Ok (length (export_text first rates))))) → P (export_of room first rates)
 export_cases P room first rates two made = go (exportable first rates) refl
   where
-    go : (t : Bool) → exportable first rates ≡ t → P (if t then in_room room (export_text first rates) (Done (length (export_text first rates))) else refused 2 0)
+    go : (t : Bool) → exportable first rates ≡ t → P (if t then in_room room (export_text first rates) (Ok (length (export_text first rates))) else refused (NotAllowed 0))
     go true e = made (text_short first rates (out_of first rates e).few)
     go false e = two

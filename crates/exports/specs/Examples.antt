@@ -1,6 +1,6 @@
 -- A table as a list, worked by hand. Bytes are written in decimal: 44 is the comma, 13 and 10 are CR LF, 48 to 57 the digits.
 use Rattle.std.specs.Prelude.{ℕ, ◌≡◌, List, [], ◌∷◌}
-use Rattle.packs.specs.declared.Outcome.TheVariants.{Done}
+use Rattle.std.specs.Prelude.{Ok}
 use Rattle.exports.specs.Exports.{export_text, rates_of}
 
 -- "age,rate", "59,7" and "60,1000000000"
@@ -9,4 +9,4 @@ exported = 97 ∷ 103 ∷ 101 ∷ 44 ∷ 114 ∷ 97 ∷ 116 ∷ 101 ∷ 13 ∷ 1
 
 pub record Examples : Type 0 where
   pub out : export_text 59 (7 ∷ 1000000000 ∷ []) ≡ exported
-  pub back : rates_of 2 exported ≡ record { values = 7 ∷ 1000000000 ∷ []; outcome = Done 2 }
+  pub back : rates_of 2 exported ≡ record { values = 7 ∷ 1000000000 ∷ []; outcome = Ok 2 }

@@ -3,8 +3,10 @@
 use Rattle.std.specs.Prelude.{ℕ, ◌+◌, ◌-◌, ◌≡◌, Bool, true, false, ◌&&◌, List, [], ◌∷◌, ◌++◌, leb, ltb, eqb, length}
 use Rattle.std.proofs.lemmas.List.Edits.{sets}
 use Rattle.std.specs.Prelude.{if◌then◌else◌}
-use Rattle.packs.specs.declared.Outcome.{Outcome}
-use Rattle.packs.specs.declared.Outcome.TheVariants.{Done, Refused}
+use Rattle.packs.specs.Reading.{Outcome}
+use Rattle.std.specs.Prelude.{Ok, Err}
+use Rattle.refusals.specs.declared.Refusal.{Refusal}
+use Rattle.refusals.specs.declared.Refusal.TheVariants.{NotAllowed, NoRoom}
 use Rattle.packs.specs.Writing.{Written, refused, in_room}
 use Rattle.decimals.specs.Decimal.{decimal}
 use Rattle.decimals.specs.Whole.{largest}
@@ -35,7 +37,7 @@ exportable first rates =
 
 abbrev pub export_of : (room first : ℕ) → List ℕ → Written
 export_of room first rates =
-    if exportable first rates then in_room room (export_text first rates) (Done (length (export_text first rates))) else refused 2 0
+    if exportable first rates then in_room room (export_text first rates) (Ok (length (export_text first rates))) else refused (NotAllowed 0)
 
 -- ---- and back
 -- The values read, and how the reading ends.
@@ -43,14 +45,14 @@ pub record Rated : Type 0 where
   pub values : List ℕ
   pub outcome : Outcome
 
-abbrev pub no_rates : (number place : ℕ) → Rated
-no_rates number place = record { values = []; outcome = Refused number place }
+abbrev pub no_rates : Refusal → Rated
+no_rates r = record { values = []; outcome = Err r }
 
 -- The header alone is 2, place 0; room comes last.
 abbrev pub handed_rates : (room : ℕ) → List ℕ → Outcome → Rated
-handed_rates room values (Done n) =
-    if eqb n 0 then no_rates 2 0 else if ltb room n then no_rates 13 n else record { values = values; outcome = Done n }
-handed_rates room values (Refused number place) = no_rates number place
+handed_rates room values (Ok n) =
+    if eqb n 0 then no_rates (NotAllowed 0) else if ltb room n then no_rates (NoRoom n) else record { values = values; outcome = Ok n }
+handed_rates room values (Err r) = no_rates r
 
 abbrev pub rates_of : (room : ℕ) → (text : List ℕ) → Rated
 rates_of room text = handed_rates room (listed_of false (lines_of text)).counts (listed_of false (lines_of text)).outcome

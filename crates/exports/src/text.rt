@@ -1,7 +1,6 @@
 // A table that goes out as a list.
 ghost use Rattle.std.specs.Prelude.{◌≡◌, ◌+◌, ◌≤◌, length};
 ghost use Rattle.packs.specs.Writing.{in_room, Leaves};
-ghost use Rattle.packs.specs.declared.Outcome.TheVariants.{Done};
 ghost use Rattle.decimals.specs.Whole.{largest};
 ghost use Rattle.decimals.specs.Puts.{Puts, Room};
 ghost use Rattle.exports.specs.Exports.{export_line, export_lines, export_text, all_upto, exportable, export_of};
@@ -9,20 +8,15 @@ ghost use Rattle.exports.specs.Exports.{export_line, export_lines, export_text, 
 use decimals::printing::put_number;
 use decimals::reading::LARGEST;
 use lists::lines::MOST_LINES;
-use packs::Outcome;
+use refusals::Refusal;
 
 // Puts bytes at `at`, and answers the offset after them.
 fn put_bytes(part: &[u8], at: usize, out: &mut [u8]) -> usize
     requires { Room part.now at out.old }
     ensures { Puts part.now out.old at result out.new }
 {
-    let mut next = at;
-    let mut i: usize = 0;
-    while i < part.len() {
-        out[next] = part[i];
-        next += 1;
-        i += 1;
-    }
+    let next = at + part.len();
+    out[at..next].copy_from_slice(part);
     next
 }
 
@@ -44,11 +38,9 @@ fn put_lines(rates: &[u32], first: u64, at: usize, out: &mut [u8]) -> usize
 {
     let mut next = at;
     let mut age = first;
-    let mut i: usize = 0;
-    while i < rates.len() {
-        next = put_line(age, rates[i] as u64, next, out);
+    for rate in rates {
+        next = put_line(age, u64::from(*rate), next, out);
         age += 1;
-        i += 1;
     }
     next
 }
@@ -67,13 +59,11 @@ fn lines_size(rates: &[u32], first: u64) -> usize
     requires { (first ≤ largest) × (length rates.now ≤ 120) }
     ensures { (result ≡ length (export_lines first rates.now)) × (result ≤ 5160) }
 {
-    let mut total: usize = 0;
+    let mut total = 0;
     let mut age = first;
-    let mut i: usize = 0;
-    while i < rates.len() {
-        total += line_size(age, rates[i] as u64);
+    for rate in rates {
+        total += line_size(age, u64::from(*rate));
         age += 1;
-        i += 1;
     }
     total
 }
@@ -82,14 +72,7 @@ fn lines_size(rates: &[u32], first: u64) -> usize
 fn all_upto(rates: &[u32]) -> bool
     ensures { result ≡ all_upto largest rates.now }
 {
-    let mut i: usize = 0;
-    while i < rates.len() {
-        if LARGEST < (rates[i] as u64) {
-            return false;
-        }
-        i += 1;
-    }
-    true
+    rates.iter().all(|rate| u64::from(*rate) <= LARGEST)
 }
 
 // Whether a table may go out.
@@ -97,43 +80,33 @@ fn is_exportable(rates: &[u32], first: u64) -> bool
     ensures { result ≡ exportable first rates.now }
 {
     let n = rates.len();
-    if n < 1 {
-        return false;
-    }
-    if MOST_LINES < n {
-        return false;
-    }
-    if LARGEST < first {
-        return false;
-    }
-    let later = (n - 1) as u64;
-    let last = first + later;
-    if LARGEST < last {
-        return false;
-    }
-    all_upto(rates)
+    n >= 1
+        && n <= MOST_LINES
+        && first <= LARGEST
+        && first + (n as u64 - 1) <= LARGEST
+        && all_upto(rates)
 }
 
 // Writes a table that may go out.
-fn export_lines(rates: &[u32], first: u64, out: &mut [u8]) -> Outcome
+fn export_lines(rates: &[u32], first: u64, out: &mut [u8]) -> Result<usize, Refusal>
     requires { (first ≤ largest) × (length rates.now ≤ 120) }
-    ensures { Leaves (in_room (length out.old) (export_text first rates.now) (Done (length (export_text first rates.now)))) out.old result out.new }
+    ensures { Leaves (in_room (length out.old) (export_text first rates.now) (Ok (length (export_text first rates.now)))) out.old result out.new }
 {
     let size = 10 + lines_size(rates, first);
     if out.len() < size {
-        return Outcome::Refused(13, size);
+        return Err(Refusal::NoRoom(size));
     }
     let next = put_bytes(b"age,rate\r\n", 0, out);
     let end = put_lines(rates, first, next, out);
-    Outcome::Done(end)
+    Ok(end)
 }
 
 // Writes a table as a list from the age `first` on, or refuses and writes nothing.
-pub fn export(rates: &[u32], first: u64, out: &mut [u8]) -> Outcome
+pub fn export(rates: &[u32], first: u64, out: &mut [u8]) -> Result<usize, Refusal>
     ensures { Leaves (export_of (length out.old) first rates.now) out.old result out.new }
 {
-    if is_exportable(rates, first) {
-        return export_lines(rates, first, out);
+    if !is_exportable(rates, first) {
+        return Err(Refusal::NotAllowed(0));
     }
-    Outcome::Refused(2, 0)
+    export_lines(rates, first, out)
 }

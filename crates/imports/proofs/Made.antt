@@ -1,33 +1,21 @@
 -- The words of an import, stored one after another.
-use Prim.Native.Nat.{ℕ, ◌+◌, ◌-◌, ◌*◌, ◌/◌, ◌^◌, ◌≤◌, ◌<◌}
+use Prim.Native.Nat.{ℕ, ◌+◌, ◌-◌, ◌*◌, ◌≤◌, ◌<◌}
 use mathlib.Core.Path.{◌≡◌, refl, sym, ap, ap₂, ◌∙◌}
 use mathlib.Core.List.{List, [], ◌∷◌, ◌++◌, append_assoc, append-nil}
-use native.Mathlib.Nat.{div-le_self}
 use native.Mathlib.Numerals.{add-one}
 use native.Mathlib.Omega.{arith}
-use borrow.Author.Tests.{lt-leb, le-leb, lt-ltb, le-ltb, eq-eqb, ne_eqb}
+use borrow.Author.Tests.{lt-leb, le-leb}
 use lib.IntN.{ℤ, pos, negsuc}
-use lib.ListN.{length, get_or, set, take, replicate, length-append, length-replicate}
+use lib.ListN.{length, get_or, set, take, drop, replicate, length-append, length-replicate}
 use lib.Seq.{sets, take-suc, length-take-le}
+use borrow.Rule.Slice.PartMut.{put_mid}
 use Rattle.numbers.proofs.Stores.{sets_append}
+use Rattle.numbers.proofs.Copies.{placed, placed_first}
 use Rattle.jobs.proofs.Handed.{held_room, held_part}
 use Rattle.imports.specs.declared.Given.{Given}
-use Rattle.imports.specs.Imports.{crude_of, weight_of, word_upto, largest_word, largest_order, cell_of, cells_of, head_of, words_of}
+use Rattle.imports.specs.Imports.{word_upto, cell_of, cells_of, head_of, words_of}
 
 -- ---- numbers
-pub crude_none : (exposure deaths : ℕ) → exposure ≡ 0 → (0 ≡ crude_of exposure deaths) × (0 ≤ 9000000000000000)
-crude_none exposure deaths h = (rw (eq-eqb exposure 0 h), omega arith)
-
-pub crude_some : (exposure deaths : ℕ) → (exposure ≡ 0 → ⊥) → exposure < 2 ^ 32 → deaths < 2 ^ 32
-    → ((2 * (deaths * 1000000) + exposure) / (2 * exposure) ≡ crude_of exposure deaths) × ((2 * (deaths * 1000000) + exposure) / (2 * exposure) ≤ 9000000000000000)
-crude_some exposure deaths h e d = (rw (ne_eqb exposure 0 h), omega (arith, div-le_self (2 * (deaths * 1000000) + exposure) (2 * exposure)))
-
-pub weight_most : (divisor exposure : ℕ) → 1000 < exposure / divisor → (1000 ≡ weight_of divisor exposure) × (1000 ≤ 1000)
-weight_most divisor exposure h = (rw (lt-ltb 1000 (exposure / divisor) h), omega arith)
-
-pub weight_less : (divisor exposure : ℕ) → exposure / divisor ≤ 1000 → (exposure / divisor ≡ weight_of divisor exposure) × (exposure / divisor ≤ 1000)
-weight_less divisor exposure h = (rw (le-ltb 1000 (exposure / divisor) h), h)
-
 pub word_in : (most x : ℕ) → x ≤ most → {r : ℤ} → r ≡ pos x → r ≡ word_upto most x
 word_in most x h e = rw (le-leb x most h) e
 
@@ -35,42 +23,6 @@ pub word_out : (most x : ℕ) → most < x → negsuc 0 ≡ word_upto most x
 word_out most x h = rw (lt-leb x most h)
 
 -- ---- stores
-pub two_set : (l : List ℤ) (at : ℕ) (a b : ℤ) → set (set l at a) (at + 1) b ≡ sets l at (a ∷ b ∷ [])
-two_set l at a b = ap (λ (n : ℕ). set (set l at a) n b) (add-one at)
-
-two : (a b c d : ℤ) → a ≡ c → b ≡ d → ◌≡◌ {A = List ℤ} (a ∷ b ∷ []) (c ∷ d ∷ [])
-two a b c d p q = cc
-
--- the words before the first cell
-pub head_made : (g : Given) (n : ℕ) (l : List ℤ) {l1 l2 l3 : List ℤ} {a b c d e f : ℤ}
-    → l1 ≡ sets l 0 (a ∷ b ∷ []) → l2 ≡ sets l1 2 (c ∷ d ∷ []) → l3 ≡ sets l2 4 (e ∷ f ∷ [])
-    → a ≡ word_upto largest_word g.society → b ≡ word_upto largest_word g.job → c ≡ pos n → d ≡ word_upto largest_order g.order
-    → e ≡ word_upto largest_word g.constant → f ≡ word_upto largest_word g.tolerance → l3 ≡ sets l 0 (head_of g n)
-unfolding head_of
-head_made g n l {l1} {l2} {l3} {a} {b} {c} {d} {e} {f} p q r pa pb pc pd pe pf =
-    r
-    ∙ ap₂ (λ (x : List ℤ) (vs : List ℤ). sets x 4 vs)
-    (q
-    ∙ ap₂ (λ (x : List ℤ) (vs : List ℤ). sets x 2 vs)
-    (p ∙ ap (sets l 0) (two a b (word_upto largest_word g.society) (word_upto largest_word g.job) pa pb))
-    (two c d (pos n) (word_upto largest_order g.order) pc pd))
-    (two e f (word_upto largest_word g.constant) (word_upto largest_word g.tolerance) pe pf)
-
--- the words of a cell
-pub cell_made : (g : Given) (exposure deaths at : ℕ) (l : List ℤ) {l1 l2 : List ℤ} {a b c d : ℤ}
-    → l1 ≡ sets l at (a ∷ b ∷ []) → l2 ≡ sets l1 (at + 2) (c ∷ d ∷ [])
-    → a ≡ pos (crude_of exposure deaths) → b ≡ pos (weight_of g.divisor exposure) → c ≡ word_upto largest_word g.floor → d ≡ word_upto largest_word g.ceiling
-    → l2 ≡ sets l at (cell_of g exposure deaths)
-unfolding cell_of
-cell_made g exposure deaths at l {l1} {l2} {a} {b} {c} {d} p q pa pb pc pd =
-    let rate = pos (crude_of exposure deaths) in
-    let weight = pos (weight_of g.divisor exposure) in
-    let lo = word_upto largest_word g.floor in
-    let hi = word_upto largest_word g.ceiling in
-    q
-    ∙ ap₂ (λ (x : List ℤ) (vs : List ℤ). sets x (at + 2) vs) (p ∙ ap (sets l at) (two a b rate weight pa pb)) (two c d lo hi pc pd)
-    ∙ sym (sets_append (rate ∷ weight ∷ []) (lo ∷ hi ∷ []) l at)
-
 pub cell_length : (g : Given) (exposure deaths : ℕ) → length (cell_of g exposure deaths) ≡ 4
 unfolding cell_of
 cell_length g exposure deaths = refl
@@ -124,10 +76,19 @@ module _ (g : Given) (es ds : List ℕ) (i : ℕ) (h : i < length es) (k : i < l
 pub cells_start : (g : Given) (es ds : List ℕ) (l : List ℤ) → l ≡ sets l 6 (cells_of g (take 0 es) (take 0 ds))
 cells_start g es ds l = sym (ap (sets l 6) (cells_nil g []))
 
+pub cell_put : (g : Given) (exposure deaths at : ℕ) (w : List ℤ) {part cell : List ℤ} → part ≡ cell → cell ≡ cell_of g exposure deaths → at + 4 ≤ length w
+    → put_mid at (at + 4 - at) w part ≡ sets w at (cell_of g exposure deaths)
+cell_put g exposure deaths at w p q h =
+    let four = cell_length g exposure deaths in
+    placed (p ∙ q) w at (at + 4 - at) (omega arith) (omega arith)
+
 -- ---- the whole job
 pub head_length : (g : Given) (n : ℕ) → length (head_of g n) ≡ 6
 unfolding head_of
 head_length g n = refl
+
+pub head_put : (g : Given) (n : ℕ) (w : List ℤ) {part head : List ℤ} → part ≡ head → head ≡ head_of g n → 6 ≤ length w → part ++ drop 6 w ≡ sets w 0 (head_of g n)
+head_put g n w p q h = let six = head_length g n in placed_first (p ∙ q) w 6 (omega arith) (omega arith)
 
 pub words_parts : (g : Given) (es ds : List ℕ) → words_of g es ds ≡ head_of g (length es) ++ (cells_of g es ds ++ (pos 0 ∷ []))
 unfolding words_of
@@ -172,6 +133,6 @@ module _ (g : Given) (n : ℕ) (es ds : List ℕ) (h : n ≤ length es) (k : n �
     pub scratch_room : count ≤ length words
     scratch_room = held_room (replicate 487 (pos 0)) (length-replicate 487 (pos 0)) (words_of g (take n es) (take n ds)) count_words (omega arith) stored
 
-    pub scratch_words : take (count - 0) words ≡ words_of g (take n es) (take n ds)
+    pub scratch_words : take count words ≡ words_of g (take n es) (take n ds)
     scratch_words =
-        held_part (replicate 487 (pos 0)) (length-replicate 487 (pos 0)) (words_of g (take n es) (take n ds)) {k = count - 0} (omega (arith, count_words)) (omega arith) stored
+        held_part (replicate 487 (pos 0)) (length-replicate 487 (pos 0)) (words_of g (take n es) (take n ds)) {k = count} count_words (omega arith) stored

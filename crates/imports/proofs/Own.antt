@@ -13,11 +13,12 @@ use Rattle.numbers.specs.Plain.{bytes_of}
 use Rattle.fields.specs.declared.cells.Cells.{Cells}
 use Rattle.fields.specs.declared.Field.{Field}
 use Rattle.fields.specs.declared.Field.TheVariants.{Society, Job, Count, Order, Rows, Constant, Tolerance, Crude, Weight, Floor, Ceiling, LinkCount}
-use Rattle.fields.specs.declared.Step.{Step}
-use Rattle.fields.specs.declared.Step.TheVariants.{Next, NotAllowed, Refused}
-use Rattle.fields.specs.Table.{within, rule, order_used, shaped, is_order, grid_field, lacking, in_row, next_row, weighed, next_cell, after_ceiling, step_of, signed_at, end_at}
-use Rattle.packs.specs.declared.Outcome.{Outcome}
-use Rattle.packs.specs.declared.Outcome.TheVariants.{Done, Refused as Refuses}
+use Rattle.fields.specs.declared.Barred.TheVariants.{Unallowed, Other}
+use Rattle.fields.specs.Table.{Step, within, rule, order_used, shaped, is_order, grid_field, lacking, in_row, next_row, weighed, next_cell, after_ceiling, step_of, signed_at, end_at}
+use Rattle.packs.specs.Reading.{Outcome}
+use Rattle.std.specs.Prelude.{Ok, Err}
+use Rattle.refusals.specs.declared.Refusal.TheVariants.{FloorAbove, TooFewWeights}
+use Rattle.refusals.specs.Refusals.{number_of}
 use Rattle.packs.specs.Writing.{on_step, on_put, write_from}
 use Rattle.jobs.specs.Packs.{write_job}
 use Rattle.numbers.proofs.Both.{both}
@@ -27,15 +28,15 @@ use Rattle.imports.proofs.Made.{cells_cons, cells_nil, words_parts}
 
 -- done, or one of the three
 abbrev pub Own : Outcome → Type 0
-Own (Done n) = Unit {0}
-Own (Refuses number place) = (2 ≤ number) × (number ≤ 4)
+Own (Ok n) = Unit {0}
+Own (Err r) = (2 ≤ number_of r) × (number_of r ≤ 4)
 
 -- ---- one word
 -- what a step does with the words after it
 abbrev Steps : (xs : List ℤ) → Step → Type 0
-Steps xs (Next g) = (at : ℕ) → Own (write_from xs g at).outcome
-Steps xs NotAllowed = Unit {0}
-Steps xs (Refused number place) = (2 ≤ number) × (number ≤ 4)
+Steps xs (Ok g) = (at : ℕ) → Own (write_from xs g at).outcome
+Steps xs (Err Unallowed) = Unit {0}
+Steps xs (Err (Other r)) = (2 ≤ number_of r) × (number_of r ≤ 4)
 
 -- a word at a field that is plain and not the end
 word_at : (n : ℕ) (xs : List ℤ) (f : Field) (at : ℕ) → end_at f ≡ false → signed_at f ≡ false → Steps xs (step_of f n) → Own (write_from (pos n ∷ xs) f at).outcome
@@ -43,9 +44,9 @@ unfolding write_from
 word_at n xs f at e s h = rw (e, s) (go (step_of f n) h)
   where
     go : (t : Step) → Steps xs t → Own (on_put (on_step at n t) (λ g raw. write_from xs g (at + length (bytes_of raw)))).outcome
-    go (Next g) k = k (at + length (bytes_of n))
-    go NotAllowed k = (omega arith, omega arith)
-    go (Refused number place) k = k
+    go (Ok g) k = k (at + length (bytes_of n))
+    go (Err Unallowed) k = (omega arith, omega arith)
+    go (Err (Other r)) k = k
 
 -- a word below 0
 below_word : (n : ℕ) (xs : List ℤ) (f : Field) (at : ℕ) → end_at f ≡ false → signed_at f ≡ false → Own (write_from (negsuc n ∷ xs) f at).outcome
@@ -73,7 +74,7 @@ after_cell_lem : (c : Cells) (lo hi : ℕ) (xs : List ℤ)
 after_cell_lem c lo hi xs more last = go (ltb hi lo) (ltb (c.cell + 1) c.n) refl (ltb 0 (c.want / 8))
   where
     go : (t u : Bool) → ltb (c.cell + 1) c.n ≡ u → (w : Bool)
-        → Steps xs (if t then Refused 3 c.cell else if u then Next (Crude (next_cell c)) else if w then Refused 4 0 else Next (LinkCount c.n))
+        → Steps xs (if t then Err (Other (FloorAbove c.cell)) else if u then Ok (Crude (next_cell c)) else if w then Err (Other TooFewWeights) else Ok (LinkCount c.n))
     go true u e w = (omega arith, omega arith)
     go false true e w = more (next_cell c) refl refl (ltb-true (c.cell + 1) c.n e)
     go false false e true = (omega arith, omega arith)
@@ -103,9 +104,9 @@ one_cell : (u w lo hi : ℤ) (xs : List ℤ) (c : Cells) (at : ℕ)
 unfolding step_of
 one_cell u w lo hi xs c at more last =
     any_word u (w ∷ lo ∷ hi ∷ xs) (Crude c) at refl refl
-    (λ x. tested (w ∷ lo ∷ hi ∷ xs) (within 0 1000000 x) (Next (Weight c)) (λ t a. any_word w (lo ∷ hi ∷ xs) (Weight c) a refl refl
-    (λ y. tested (lo ∷ hi ∷ xs) (within 0 1000 y) (Next (Floor (weighed c y))) (λ t a. any_word lo (hi ∷ xs) (Floor (weighed c y)) a refl refl
-    (λ z. tested (hi ∷ xs) (within 0 1000000 z) (Next (Ceiling (weighed c y) z)) (λ t a. any_word hi xs (Ceiling (weighed c y) z) a refl refl
+    (λ x. tested (w ∷ lo ∷ hi ∷ xs) (within 0 1000000 x) (Ok (Weight c)) (λ t a. any_word w (lo ∷ hi ∷ xs) (Weight c) a refl refl
+    (λ y. tested (lo ∷ hi ∷ xs) (within 0 1000 y) (Ok (Floor (weighed c y))) (λ t a. any_word lo (hi ∷ xs) (Floor (weighed c y)) a refl refl
+    (λ z. tested (hi ∷ xs) (within 0 1000000 z) (Ok (Ceiling (weighed c y) z)) (λ t a. any_word hi xs (Ceiling (weighed c y) z) a refl refl
     (λ v. tested xs (within 0 1000000 v) (after_ceiling (weighed c y) z v) (λ t. after_weighed c y z v xs more last))))))))
 
 cell_own : (g : Given) (e d : ℕ) (xs : List ℤ) (c : Cells) (at : ℕ)
@@ -141,9 +142,9 @@ unfolding step_of
 order_own x n xs at later = go (leb x largest_order) refl
   where
     line : (t : Bool) → eqb x grid_field ≡ t → x ≤ largest_order
-        → Steps xs (if t then Next (Rows n) else rule (is_order n (order_used x)) (Next (Constant (shaped n 1 (order_used x) 1) 0)))
+        → Steps xs (if t then Ok (Rows n) else rule (is_order n (order_used x)) (Ok (Constant (shaped n 1 (order_used x) 1) 0)))
     line true e h = absurd (omega (arith, eqb-true x grid_field e, h))
-    line false e h = tested xs (is_order n (order_used x)) (Next (Constant (shaped n 1 (order_used x) 1) 0)) (λ q. later (order_used x))
+    line false e h = tested xs (is_order n (order_used x)) (Ok (Constant (shaped n 1 (order_used x) 1) 0)) (λ q. later (order_used x))
 
     go : (t : Bool) → leb x largest_order ≡ t → Own (write_from ((if t then pos x else negsuc 0) ∷ xs) (Order n) at).outcome
     go true e = word_at x xs (Order n) at refl refl (line (eqb x grid_field) refl (leb-true x largest_order e))
@@ -154,12 +155,12 @@ head_own : (a b k t : ℤ) (o n : ℕ) (xs : List ℤ) → (2 ≤ n → (z at : 
 unfolding step_of
 head_own a b k t o n xs cells =
     any_word a (b ∷ rest) Society 0 refl refl
-    (λ x. tested (b ∷ rest) (within 0 7 x) (Next Job) (λ q i. any_word b rest Job i refl refl
-    (λ y. tested rest (within 0 4294967295 y) (Next Count) (λ q i. word_at n (word_upto largest_order o ∷ k ∷ t ∷ xs) Count i refl refl
-    (tested (word_upto largest_order o ∷ k ∷ t ∷ xs) (within 2 120 n) (Next (Order n)) (λ two i. order_own o n (k ∷ t ∷ xs) i
+    (λ x. tested (b ∷ rest) (within 0 7 x) (Ok Job) (λ q i. any_word b rest Job i refl refl
+    (λ y. tested rest (within 0 4294967295 y) (Ok Count) (λ q i. word_at n (word_upto largest_order o ∷ k ∷ t ∷ xs) Count i refl refl
+    (tested (word_upto largest_order o ∷ k ∷ t ∷ xs) (within 2 120 n) (Ok (Order n)) (λ two i. order_own o n (k ∷ t ∷ xs) i
     (λ z i. any_word k (t ∷ xs) (Constant (shaped n 1 z 1) 0) i refl refl
-    (λ u. tested (t ∷ xs) (within 1 1000 u) (Next (Tolerance (shaped n 1 z 1))) (λ q i. any_word t xs (Tolerance (shaped n 1 z 1)) i refl refl
-    (λ v. tested xs (within 0 1000000000000000 v) (Next (Crude (shaped n 1 z 1)))
+    (λ u. tested (t ∷ xs) (within 1 1000 u) (Ok (Tolerance (shaped n 1 z 1))) (λ q i. any_word t xs (Tolerance (shaped n 1 z 1)) i refl refl
+    (λ v. tested xs (within 0 1000000000000000 v) (Ok (Crude (shaped n 1 z 1)))
     (λ q i. cells (leb-true 2 n (both (leb 2 n) (leb n 120) two).0) z i)))))))))))
   where
     rest : List ℤ

@@ -1,5 +1,5 @@
 -- The crude rate is rounded, halves up, and the weight down.
-use Prim.Native.Nat.{ℕ, zero, suc, ◌+◌, ◌-◌, ◌*◌, ◌/◌, ◌≤◌, ◌<◌}
+use Prim.Native.Nat.{ℕ, zero, suc, ◌+◌, ◌*◌, ◌/◌, ◌≤◌, ◌<◌}
 use mathlib.Core.Path.{◌≡◌, refl, ap, ◌∙◌}
 use mathlib.Core.Bool.{Bool, true, false}
 use native.Mathlib.Nat.{mul_comm, mul_assoc, mul-add, mul-one, div-mul-le_self, lt-div-mul-add, mul-le-mul, le_refl}

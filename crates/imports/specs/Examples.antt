@@ -1,6 +1,7 @@
 -- A claims list made into its job pack, worked by hand. Bytes are written in decimal: 44 is the comma, 13 and 10 are CR LF, 48 to 57 the digits.
 use Rattle.std.specs.Prelude.{ℕ, ◌≡◌, List, [], ◌∷◌, ◌++◌}
-use Rattle.packs.specs.declared.Outcome.TheVariants.{Done, Refused}
+use Rattle.std.specs.Prelude.{Ok, Err}
+use Rattle.refusals.specs.declared.Refusal.TheVariants.{NotAllowed, NoRoom}
 use Rattle.lists.specs.Cut.{line_end}
 use Rattle.imports.specs.declared.Given.{Given}
 use Rattle.imports.specs.Imports.{crude_of, weight_of, import_of}
@@ -23,8 +24,8 @@ pub record Examples : Type 0 where
   pub two_thirds : crude_of 3 2 ≡ 666667
   pub whole : crude_of 7 7 ≡ 1000000
   pub heavy : weight_of 1 1000000000 ≡ 1000
-  pub imported : import_of (given 2) 27 claims ≡ record { bytes = pack; outcome = Done 27 }
-  pub with_last_end : import_of (given 2) 27 (claims ++ line_end) ≡ record { bytes = pack; outcome = Done 27 }
-  pub short : (import_of (given 2) 26 claims).outcome ≡ Refused 13 27
+  pub imported : import_of (given 2) 27 claims ≡ record { bytes = pack; outcome = Ok 27 }
+  pub with_last_end : import_of (given 2) 27 (claims ++ line_end) ≡ record { bytes = pack; outcome = Ok 27 }
+  pub short : (import_of (given 2) 26 claims).outcome ≡ Err (NoRoom 27)
   -- the order field stands at the offset 3
-  pub grid : (import_of (given 5) 27 claims).outcome ≡ Refused 2 3
+  pub grid : (import_of (given 5) 27 claims).outcome ≡ Err (NotAllowed 3)

@@ -1,8 +1,9 @@
 -- Document 02, W-201: the job pack that a claims list makes.
 use Rattle.std.specs.Prelude.{ℕ, ◌+◌, ◌*◌, ◌/◌, true, List, [], ◌∷◌, ◌++◌, leb, ltb, eqb, ℤ, pos, negsuc, length}
 use Rattle.std.specs.Prelude.{if◌then◌else◌}
-use Rattle.packs.specs.declared.Outcome.{Outcome}
-use Rattle.packs.specs.declared.Outcome.TheVariants.{Done, Refused}
+use Rattle.packs.specs.Reading.{Outcome}
+use Rattle.std.specs.Prelude.{Ok, Err}
+use Rattle.refusals.specs.declared.Refusal.TheVariants.{NoDivisor}
 use Rattle.packs.specs.Writing.{Written, refused, roomed}
 use Rattle.jobs.specs.Packs.{write_job}
 use Rattle.imports.specs.declared.Given.{Given}
@@ -58,11 +59,11 @@ words_of g exposures deaths = head_of g (length exposures) ++ (cells_of g exposu
 
 -- "the pack's own refusals follow", and room comes last.
 abbrev pub on_listed : Given → (room : ℕ) → Listed → Outcome → Written
-on_listed g room listed (Done n) = roomed room (write_job (words_of g listed.exposures listed.counts))
-on_listed g room listed (Refused number line) = refused number line
+on_listed g room listed (Ok n) = roomed room (write_job (words_of g listed.exposures listed.counts))
+on_listed g room listed (Err r) = refused r
 
 -- "Refusals: 19 divisor 0, first, place 0; then by line 16 …, 17 …, 18 …; the pack's own refusals follow"
 unfoldable pub import_of : Given → (room : ℕ) → (text : List ℕ) → Written
 import_of g room text =
-    if eqb g.divisor 0 then refused 19 0 else
+    if eqb g.divisor 0 then refused NoDivisor else
     on_listed g room (listed_of true (lines_of text)) (listed_of true (lines_of text)).outcome

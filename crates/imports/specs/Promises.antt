@@ -2,7 +2,9 @@
 use Rattle.std.specs.Prelude.{ℕ, ◌+◌, ◌*◌, ◌≤◌, ◌<◌, ◌≡◌, true, false, List, [], ◌∷◌, ltb, pos, length, get_or}
 use Rattle.std.specs.Prelude.{if◌then◌else◌}
 use Rattle.fields.specs.Table.{order_used}
-use Rattle.packs.specs.declared.Outcome.TheVariants.{Done, Refused}
+use Rattle.std.specs.Prelude.{Ok, Err}
+use Rattle.refusals.specs.declared.Refusal.{Refusal}
+use Rattle.refusals.specs.declared.Refusal.TheVariants.{NoDivisor}
 use Rattle.packs.specs.Writing.{refused, in_room, roomed}
 use Rattle.jobs.specs.Job.{Job}
 use Rattle.jobs.specs.Words.{job_of}
@@ -61,12 +63,12 @@ pub record PackAllows (g : Given) (exposures : List ℕ) : Type 0 where
 -- with a fault is refused by its first (`LowestFault` of `lists`); one without, as the writer refuses the job's words.
 pub record ImportedExactly : Type 0 where
   pub done : (g : Given) (room : ℕ) (text exposures deaths : List ℕ) → (g.divisor ≡ 0 → ⊥) → ListText true text exposures deaths → PackAllows g exposures
-      → (n : ℕ) × (import_of g room text ≡ in_room room (write_job (words_of g exposures deaths)).bytes (Done n))
-  pub only : (g : Given) (room : ℕ) (text : List ℕ) (n : ℕ) → (import_of g room text).outcome ≡ Done n
+      → (n : ℕ) × (import_of g room text ≡ in_room room (write_job (words_of g exposures deaths)).bytes (Ok n))
+  pub only : (g : Given) (room : ℕ) (text : List ℕ) (n : ℕ) → (import_of g room text).outcome ≡ Ok n
       → (g.divisor ≡ 0 → ⊥) × ((exposures : List ℕ) × ((deaths : List ℕ) × (ListText true text exposures deaths × PackAllows g exposures)))
-  pub divisor : (g : Given) (room : ℕ) (text : List ℕ) → g.divisor ≡ 0 → import_of g room text ≡ refused 19 0
-  pub faulty : (g : Given) (room : ℕ) (text : List ℕ) (number place : ℕ) → (g.divisor ≡ 0 → ⊥) → (listed_of true (lines_of text)).outcome ≡ Refused number place
-      → import_of g room text ≡ refused number place
+  pub divisor : (g : Given) (room : ℕ) (text : List ℕ) → g.divisor ≡ 0 → import_of g room text ≡ refused NoDivisor
+  pub faulty : (g : Given) (room : ℕ) (text : List ℕ) (r : Refusal) → (g.divisor ≡ 0 → ⊥) → (listed_of true (lines_of text)).outcome ≡ Err r
+      → import_of g room text ≡ refused r
   pub written : (g : Given) (room : ℕ) (text exposures deaths : List ℕ) → (g.divisor ≡ 0 → ⊥) → ListText true text exposures deaths
       → import_of g room text ≡ roomed room (write_job (words_of g exposures deaths))
 
@@ -89,6 +91,6 @@ pub record JobOfList (g : Given) (exposures deaths : List ℕ) (j : Job) : Type 
 
 abbrev pub ImportsReadBack : Type 0
 ImportsReadBack =
-    (g : Given) (room : ℕ) (text exposures deaths : List ℕ) (n : ℕ) → ListText true text exposures deaths → (import_of g room text).outcome ≡ Done n
-    → (read_job (import_of g room text).bytes ≡ record { words = words_of g exposures deaths; outcome = Done (length (words_of g exposures deaths)) })
+    (g : Given) (room : ℕ) (text exposures deaths : List ℕ) (n : ℕ) → ListText true text exposures deaths → (import_of g room text).outcome ≡ Ok n
+    → (read_job (import_of g room text).bytes ≡ record { words = words_of g exposures deaths; outcome = Ok (length (words_of g exposures deaths)) })
     × JobOfList g exposures deaths (job_of (words_of g exposures deaths))

@@ -11,12 +11,11 @@ const UNITS: u64 = 1000000;
 pub fn crude_of(exposure: u32, deaths: u32) -> u64
     ensures { (result ≡ crude_of exposure deaths) × (result ≤ 9000000000000000) }
 {
-    let e = exposure as u64;
+    let e = u64::from(exposure);
     if e == 0 {
         return 0;
     }
-    let d = deaths as u64;
-    (2 * (d * UNITS) + e) / (2 * e)
+    (2 * (u64::from(deaths) * UNITS) + e) / (2 * e)
 }
 
 // The weight, rounded down, and the most that a job allows if that is less.
@@ -24,10 +23,5 @@ pub fn weight_of(divisor: u64, exposure: u32) -> u64
     requires { 0 < divisor }
     ensures { (result ≡ weight_of divisor exposure) × (result ≤ 1000) }
 {
-    let e = exposure as u64;
-    let w = e / divisor;
-    if WEIGHT < w {
-        return WEIGHT;
-    }
-    w
+    (u64::from(exposure) / divisor).min(WEIGHT)
 }

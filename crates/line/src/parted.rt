@@ -46,11 +46,8 @@ pub fn put_values(rates: &[i64], n: usize, at: usize, out: &mut [u8]) -> usize
     ensures { Puts (later (taken_from 0 n rates.now)) out.old at result out.new }
 {
     let mut next = at;
-    let mut i: usize = 0;
-    while i < n {
-        let rate = count_at(rates, i);
-        next = put_field(rate, next, out);
-        i += 1;
+    for i in 0..n {
+        next = put_field(count_at(rates, i), next, out);
     }
     next
 }

@@ -1,18 +1,21 @@
 -- The first place at which a test holds, sought byte by byte, and the lines that such places part.
 use Prim.Native.Nat.{ℕ, zero, suc, ◌+◌, ◌-◌, ◌≤◌, ◌<◌}
 use mathlib.Core.Path.{◌≡◌, refl, sym, ap, ◌∙◌}
-use mathlib.Core.Bool.{Bool, true, false}
+use mathlib.Core.Bool.{Bool, true, false, ◌&&◌}
 use mathlib.Core.List.{List, [], ◌∷◌}
-use native.Mathlib.Nat.{add-zero, zero-add}
 use native.Mathlib.Numerals.{add-one}
 use native.Mathlib.Omega.{arith}
 use borrow.Author.Tests.{eq-eqb, ne_eqb, eqb-true}
 use lib.Dec.{eqb}
-use lib.ListN.{length, get_or, drop, length-drop, drop_of_length-le, get_or-eq_default}
-use lib.Seq.{drop-cons, get_or-drop}
+use lib.Pointwise.{pointwise}
+use Rattle.std.specs.Prelude.{Option, MatchOption, unwrap_or}
+use Rattle.std.specs.List.{AllWithin, HoldsAt}
+use Rattle.std.proofs.lemmas.Iterator.{index_from_first}
+use lib.ListN.{length, get_or, take, drop, length-drop, drop_of_length-le}
+use lib.Seq.{drop-cons, take_all}
 use Rattle.numbers.proofs.Clash.{clash}
 use Rattle.numbers.proofs.Both.{both}
-use Rattle.lists.specs.Cut.{length_to, is_break, is_comma, line_in, lines_after, lines_in, lines_of, same_bytes}
+use Rattle.lists.specs.Cut.{length_to, is_break, is_comma, field_in, fields_after, line_in, lines_after, lines_in, lines_of, same_bytes}
 
 -- ---- one byte after another
 pub here_cons : (test : List ℕ → Bool) (b : ℕ) (s : List ℕ) → test (b ∷ s) ≡ true → length_to test (b ∷ s) ≡ 0
@@ -77,28 +80,24 @@ module _ {test : List ℕ → Bool} {s : List ℕ} {at i : ℕ} (S : Seeking tes
       let none : length_to test (drop i s) ≡ 0 = ap (length_to test) (drop_of_length-le s {i = i} h) ∙ none_left test in
       (omega (arith, S.same), S.within)
 
-pub from_start : (test : List ℕ → Bool) (s : List ℕ) {r : ℕ} → Sought test s 0 r → (r ≡ length_to test s) × (r ≤ length s)
-from_start test s h = (h.0 ∙ zero-add (length_to test s), h.1)
+-- ---- a comma, as the library seeks it, and what stands on both sides of it
+comma_here : (b : ℕ) (s : List ℕ) → b ≡ 44 → length_to is_comma (b ∷ s) ≡ 0
+comma_here b s e = here_cons is_comma b s (eq-eqb b 44 e)
 
--- ---- the two tests
-module _ (s : List ℕ) (i : ℕ) where
-  first_byte : get_or (drop i s) 0 0 ≡ get_or s i 0
-  first_byte = get_or-drop i s 0 0 ∙ ap (λ (n : ℕ). get_or s n 0) (add-zero i)
+comma_not : (b : ℕ) (s : List ℕ) → (b ≡ 44 → ⊥) → length_to is_comma (b ∷ s) ≡ length_to is_comma s + 1
+comma_not b s n = on_cons is_comma b s (ne_eqb b 44 n) ∙ sym (add-one (length_to is_comma s))
 
-  pub comma_here : get_or s i 0 ≡ 44 → is_comma (drop i s) ≡ true
-  comma_here e = eq-eqb (get_or (drop i s) 0 0) 44 (first_byte ∙ e)
+pub comma_found : (line : List ℕ) (r : Option ℕ)
+    → MatchOption r (AllWithin (λ b. b ≡ 44 → ⊥) line 0 (length line)) (λ i. (i < length line) × HoldsAt (λ b. b ≡ 44) line i × AllWithin (λ b. b ≡ 44 → ⊥) line 0 i)
+    → length_to is_comma line ≡ unwrap_or r (length line)
+comma_found = index_from_first (length_to is_comma) (λ b. b ≡ 44) (λ b. b ≡ 44 → ⊥) (none_left is_comma) comma_here comma_not
 
-  pub comma_not : (get_or s i 0 ≡ 44 → ⊥) → is_comma (drop i s) ≡ false
-  comma_not n = ne_eqb (get_or (drop i s) 0 0) 44 (λ e. n (sym first_byte ∙ e))
-
-  pub break_not : (get_or s i 0 ≡ 13 → ⊥) → false ≡ is_break (drop i s)
-  break_not n = rw (ne_eqb (get_or (drop i s) 0 0) 13 (λ e. n (sym first_byte ∙ e)))
-
-  pub break_next : get_or s i 0 ≡ 13 → eqb (get_or s (i + 1) 0) 10 ≡ is_break (drop i s)
-  break_next e = rw (eq-eqb (get_or (drop i s) 0 0) 13 (first_byte ∙ e)) (ap (λ (b : ℕ). eqb b 10) (sym (get_or-drop i s 1 0)))
-
-  pub break_end : get_or s i 0 ≡ 13 → length s ≤ i + 1 → false ≡ is_break (drop i s)
-  break_end e h = ap (λ (b : ℕ). eqb b 10) (sym (get_or-eq_default s 0 h)) ∙ break_next e
+module _ (line : List ℕ) {n : ℕ} (e : length_to is_comma line ≡ n) where
+  pub comma_cut : (take n line ≡ field_in line) × (take (length line - (n + 1)) (drop (n + 1) line) ≡ fields_after line)
+  comma_cut = (
+    ap (λ (k : ℕ). take k line) (sym e),
+    take_all (length line - (n + 1)) (drop (n + 1) line) (omega (arith, length-drop (n + 1) line)) ∙ ap (λ (k : ℕ). drop (k + 1) line) (sym e),
+  )
 
 -- ---- byte for byte
 pub bytes_same : (a : List ℕ) → same_bytes a a ≡ true
@@ -118,14 +117,13 @@ bytes_equal (x ∷ a) (y ∷ b) e =
     let tests = both (eqb x y) (same_bytes a b) e in
     cons_eq x y a b (eqb-true x y tests.0) (bytes_equal a b tests.1)
 
-pub same_told : (a b : List ℕ) (r : Bool) → (r ≡ true → a ≡ b) × (a ≡ b → r ≡ true) → r ≡ same_bytes a b
-same_told a b r h = go r (same_bytes a b) refl h
-  where
-    go : (r t : Bool) → same_bytes a b ≡ t → (r ≡ true → a ≡ b) × (a ≡ b → r ≡ true) → r ≡ t
-    go true true e h = refl
-    go true false e h = sym (bytes_same a) ∙ ap (same_bytes a) (h.0 refl) ∙ e
-    go false true e h = h.1 (bytes_equal a b e)
-    go false false e h = refl
+-- the library's comparison of bytes
+pub same_told : (a b : List ℕ) → pointwise eqb a b ≡ same_bytes a b
+unfolding same_bytes
+same_told [] [] = refl
+same_told [] (y ∷ b) = refl
+same_told (x ∷ a) [] = refl
+same_told (x ∷ a) (y ∷ b) = ap (λ (t : Bool). eqb x y && t) (same_told a b)
 
 -- ---- the lines of a text
 -- more room than there are bytes changes nothing

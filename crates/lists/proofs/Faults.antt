@@ -8,21 +8,23 @@ use native.Mathlib.Omega.{arith}
 use borrow.Author.Tests.{eqb-true, eqb-false, ltb-true, ltb-false}
 use lib.Dec.{eqb, ltb}
 use lib.ListN.{length}
-use Rattle.std.specs.Prelude.{if◌then◌else◌}
+use Rattle.std.specs.Prelude.{Option, Some, None, Result, Ok, Err, if◌then◌else◌}
 use Rattle.numbers.proofs.Clash.{clash}
-use Rattle.packs.specs.declared.Outcome.TheVariants.{Done, Refused}
-use Rattle.lists.specs.declared.lines.Line.{Line}
-use Rattle.lists.specs.declared.lines.Line.TheVariants.{Entry, Fault}
-use Rattle.lists.specs.declared.lines.Fields.{Fields}
-use Rattle.lists.specs.declared.lines.Fields.TheVariants.{Numbers, Bad}
+use Rattle.refusals.specs.declared.Refusal.{Refusal}
+use Rattle.refusals.specs.declared.Refusal.TheVariants.{BadLine}
+use Rattle.refusals.specs.Refusals.{number_of, place_of}
+use Rattle.lists.specs.declared.lines.Entry.{Entry}
+use Rattle.lists.specs.declared.lines.Fault.{Fault}
+use Rattle.lists.specs.declared.lines.Fault.TheVariants.{Malformed, Sequence, Deaths}
 use Rattle.lists.specs.Cut.{lines_of, same_bytes}
-use Rattle.lists.specs.Lines.{most_lines, header_of, fields_of, in_sequence, tested, line_of, Listed, ends_with, listed_from, listed_of}
+use Rattle.lists.specs.Lines.{most_lines, header_of, entry_of, fields_of, in_sequence, tested, line_of, refusal_at, Listed, ends_with, listed_from, listed_of}
 use Rattle.lists.specs.Promises.{line_text, InRange, Listing, none, line, Faulty, beyond, malformed, sequence, deaths, FirstFault, NoHeader, FaultOf, LowestFault}
 use Rattle.numbers.proofs.Both.{both}
 use Rattle.lists.proofs.Cuts.{bytes_same, bytes_equal}
 use Rattle.lists.proofs.Tests.{sequence_first, sequence_later}
 use Rattle.lists.proofs.Walks.{listed_end}
 use Rattle.lists.proofs.Exact.{lines_exactly}
+use Rattle.lists.proofs.Near.{told_at}
 use Rattle.lists.proofs.Listings.{step_by, row_good, deaths_good, age_due}
 
 -- ---- one line
@@ -39,32 +41,34 @@ not_due k before age e = (later, λ q. eqb-false age (before + 1) (sequence_late
     later : k ≡ 0 → ⊥
     later z = let w : ◌≡◌ {A = Bool} true false = sequence_first k before age z ∙ e in clash (cc)
 
-unread : (claims : Bool) (l : List ℕ) → fields_of claims l ≡ Bad → (age exposure count : ℕ) → InRange claims age exposure count → l ≡ line_text claims age exposure count → ⊥
+unread : (claims : Bool) (l : List ℕ) → fields_of claims l ≡ None → (age exposure count : ℕ) → InRange claims age exposure count → l ≡ line_text claims age exposure count → ⊥
 unread claims l b age exposure count r e =
-    let good : Numbers age exposure count ≡ Bad = sym (lines_exactly.written claims age exposure count r) ∙ ap (fields_of claims) (sym e) ∙ b in
+    let good : Some (entry_of age exposure count) ≡ None = sym (lines_exactly.written claims age exposure count r) ∙ ap (fields_of claims) (sym e) ∙ b in
     clash (cc)
 
-pub line_fault : (claims : Bool) (k before : ℕ) (l : List ℕ) (number : ℕ) → line_of claims k before l ≡ Fault number → Faulty claims k (before + 1) l number
-line_fault claims k before l number e = go (ltb k most_lines) refl (fields_of claims l) refl e
+pub line_fault : (claims : Bool) (k before : ℕ) (l : List ℕ) (fault : Fault) (n : ℕ) → line_of claims k before l ≡ Err fault
+    → Faulty claims k (before + 1) l (number_of (refusal_at fault n))
+line_fault claims k before l fault n e = go (ltb k most_lines) refl (fields_of claims l) refl e
   where
-    last : (a x y : ℕ) → ltb k most_lines ≡ true → fields_of claims l ≡ Numbers a x y → (t u : Bool) → in_sequence k before a ≡ t → (claims && ltb x y) ≡ u
-        → (if t then (if u then Fault 18 else Entry a x y) else Fault 17) ≡ Fault number → Faulty claims k (before + 1) l number
-    last a x y h r false u p q e =
-        let n : 17 ≡ number = cc in
-        let row = lines_exactly.only claims l a x y r in
-        let out = not_due k before a p in
-        rw (← n) (sequence a x y (ltb-true k most_lines h) row.0 row.1 out.0 out.1)
-    last a x y h r true true p q e =
-        let n : 18 ≡ number = cc in
-        let row = lines_exactly.only claims l a x y r in
-        let above = both claims (ltb x y) q in
-        rw (← n) (deaths a x y (ltb-true k most_lines h) row.0 row.1 (due k before a p) above.0 (ltb-true x y above.1))
-    last a x y h r true false p q e = clash (cc)
+    last : (w : Entry) → ltb k most_lines ≡ true → fields_of claims l ≡ Some w → (t u : Bool) → in_sequence k before w.age ≡ t → (claims && ltb w.exposure w.count) ≡ u
+        → (if t then (if u then Err Deaths else Ok w) else Err Sequence) ≡ Err fault → Faulty claims k (before + 1) l (number_of (refusal_at fault n))
+    last w h r false u p q e =
+        let f : Sequence ≡ fault = cc in
+        let row = lines_exactly.only claims l w.age w.exposure w.count r in
+        let out = not_due k before w.age p in
+        rw (← f) (sequence w.age w.exposure w.count (ltb-true k most_lines h) row.0 row.1 out.0 out.1)
+    last w h r true true p q e =
+        let f : Deaths ≡ fault = cc in
+        let row = lines_exactly.only claims l w.age w.exposure w.count r in
+        let above = both claims (ltb w.exposure w.count) q in
+        rw (← f) (deaths w.age w.exposure w.count (ltb-true k most_lines h) row.0 row.1 (due k before w.age p) above.0 (ltb-true w.exposure w.count above.1))
+    last w h r true false p q e = clash (cc)
 
-    go : (t : Bool) → ltb k most_lines ≡ t → (r : Fields) → fields_of claims l ≡ r → (if t then tested claims k before r else Fault 16) ≡ Fault number → Faulty claims k (before + 1) l number
-    go true h (Numbers a x y) r e = last a x y h r (in_sequence k before a) (claims && ltb x y) refl refl e
-    go true h Bad r e = let n : 16 ≡ number = cc in rw (← n) (malformed (ltb-true k most_lines h) (unread claims l r))
-    go false h row r e = let n : 16 ≡ number = cc in rw (← n) (beyond (ltb-false k most_lines h))
+    go : (t : Bool) → ltb k most_lines ≡ t → (r : Option Entry) → fields_of claims l ≡ r → (if t then tested claims k before r else Err Malformed) ≡ Err fault
+        → Faulty claims k (before + 1) l (number_of (refusal_at fault n))
+    go true h (Some w) r e = last w h r (in_sequence k before w.age) (claims && ltb w.exposure w.count) refl refl e
+    go true h None r e = let f : Malformed ≡ fault = cc in rw (← f) (malformed (ltb-true k most_lines h) (unread claims l r))
+    go false h row r e = let f : Malformed ≡ fault = cc in rw (← f) (beyond (ltb-false k most_lines h))
 
 -- ---- the first of them, after k lines without fault, where the age `next` is due
 record From (claims : Bool) (k next : ℕ) (lines : List (List ℕ)) (number place : ℕ) : Type 0 where
@@ -114,32 +118,30 @@ from_later claims k age exposure count {l} r d f =
 from_same : {claims : Bool} {k m n : ℕ} {lines : List (List ℕ)} {number place : ℕ} → m ≡ n → From claims k m lines number place → From claims k n lines number place
 from_same e f = rw (← e) f
 
-module _ {number place : ℕ} where
-  refused_place : {a b : ℕ} → Refused a b ≡ Refused number place → (a ≡ number) × (b ≡ place)
-  refused_place e = (cc, cc)
+done_refused : {r : Refusal} {n : ℕ} → Ok n ≡ Err r → ⊥
+done_refused e = clash (cc)
 
-  done_refused : {n : ℕ} → Done n ≡ Refused number place → ⊥
-  done_refused e = clash (cc)
+refused_same : {r s : Refusal} → ◌≡◌ {A = Result ℕ Refusal} (Err r) (Err s) → r ≡ s
+refused_same e = cc
 
-fault_here : (claims : Bool) (k before : ℕ) (l : List ℕ) (lines : List (List ℕ)) (n number place : ℕ) → line_of claims k before l ≡ Fault n
-    → Refused n (k + 2) ≡ Refused number place → From claims k (before + 1) (l ∷ lines) number place
-fault_here claims k before l lines n number place q e =
-    let same = refused_place e in
-    rw (← same.0) (from_here claims k (before + 1) l lines (sym same.1) (line_fault claims k before l n q))
+fault_here : (claims : Bool) (k before : ℕ) (l : List ℕ) (lines : List (List ℕ)) (fault : Fault) (r : Refusal) → line_of claims k before l ≡ Err fault
+    → refusal_at fault (k + 2) ≡ r → From claims k (before + 1) (l ∷ lines) (number_of r) (place_of r)
+fault_here claims k before l lines fault r q same =
+    rw (← same) (from_here claims k (before + 1) l lines (told_at fault (k + 2)) (line_fault claims k before l fault (k + 2) q))
 
-fault_from : (claims : Bool) (k before : ℕ) (lines : List (List ℕ)) (number place : ℕ) → (k ≡ 0 → ⊥) → (listed_from claims k before lines).outcome ≡ Refused number place
-    → From claims k (before + 1) lines number place
-fault_from claims k before [] number place h e = absurd (done_refused (sym (ap (λ (x : Listed). x.outcome) (listed_end claims k before)) ∙ e))
-fault_from claims k before (l ∷ lines) number place h e = go (line_of claims k before l) refl (λ age q. fault_from claims (k + 1) age lines number place (λ z. omega arith) q)
+fault_from : (claims : Bool) (k before : ℕ) (lines : List (List ℕ)) (r : Refusal) → (k ≡ 0 → ⊥) → (listed_from claims k before lines).outcome ≡ Err r
+    → From claims k (before + 1) lines (number_of r) (place_of r)
+fault_from claims k before [] r h e = absurd (done_refused (sym (ap (λ (x : Listed). x.outcome) (listed_end claims k before)) ∙ e))
+fault_from claims k before (l ∷ lines) r h e = go (line_of claims k before l) refl (λ age q. fault_from claims (k + 1) age lines r (λ z. omega arith) q)
   where
-    go : (x : Line) → line_of claims k before l ≡ x
-        → ((age : ℕ) → (listed_from claims (k + 1) age lines).outcome ≡ Refused number place → From claims (k + 1) (age + 1) lines number place)
-        → From claims k (before + 1) (l ∷ lines) number place
-    go (Entry age exposure count) q ih =
-        from_same (age_due claims k before l lines age exposure count q h)
-        (from_later claims k age exposure count (row_good claims k before l lines age exposure count q) (deaths_good claims k before l lines age exposure count q)
-        (ih age (sym (ap (λ (x : Listed). x.outcome) (step_by claims k before l lines q)) ∙ e)))
-    go (Fault n) q ih = fault_here claims k before l lines n number place q (sym (ap (λ (x : Listed). x.outcome) (step_by claims k before l lines q)) ∙ e)
+    go : (x : Result Entry Fault) → line_of claims k before l ≡ x
+        → ((age : ℕ) → (listed_from claims (k + 1) age lines).outcome ≡ Err r → From claims (k + 1) (age + 1) lines (number_of r) (place_of r))
+        → From claims k (before + 1) (l ∷ lines) (number_of r) (place_of r)
+    go (Ok w) q ih =
+        from_same (age_due claims k before l lines w.age w.exposure w.count q h)
+        (from_later claims k w.age w.exposure w.count (row_good claims k before l lines w.age w.exposure w.count q) (deaths_good claims k before l lines w.age w.exposure w.count q)
+        (ih w.age (sym (ap (λ (x : Listed). x.outcome) (step_by claims k before l lines q)) ∙ e)))
+    go (Err fault) q ih = fault_here claims k before l lines fault r q (refused_same (sym (ap (λ (x : Listed). x.outcome) (step_by claims k before l lines q)) ∙ e))
 
 first_of : {claims : Bool} {first : ℕ} {lines : List (List ℕ)} {number place : ℕ} → From claims 0 first lines number place → FirstFault claims lines number place
 first_of {first} f =
@@ -156,47 +158,47 @@ first_of {first} f =
       fault = faulty_at (omega arith) refl f.fault;
     }
 
-first_fault : (claims : Bool) (lines : List (List ℕ)) (number place : ℕ) → (listed_from claims 0 0 lines).outcome ≡ Refused number place → FirstFault claims lines number place
-first_fault claims [] number place e = absurd (done_refused (sym (ap (λ (x : Listed). x.outcome) (listed_end claims 0 0)) ∙ e))
-first_fault claims (l ∷ lines) number place e = go (line_of claims 0 0 l) refl
+first_fault : (claims : Bool) (lines : List (List ℕ)) (r : Refusal) → (listed_from claims 0 0 lines).outcome ≡ Err r → FirstFault claims lines (number_of r) (place_of r)
+first_fault claims [] r e = absurd (done_refused (sym (ap (λ (x : Listed). x.outcome) (listed_end claims 0 0)) ∙ e))
+first_fault claims (l ∷ lines) r e = go (line_of claims 0 0 l) refl
   where
-    go : (x : Line) → line_of claims 0 0 l ≡ x → FirstFault claims (l ∷ lines) number place
-    go (Entry age exposure count) q =
+    go : (x : Result Entry Fault) → line_of claims 0 0 l ≡ x → FirstFault claims (l ∷ lines) (number_of r) (place_of r)
+    go (Ok w) q =
         first_of
-        (from_later claims 0 age exposure count (row_good claims 0 0 l lines age exposure count q) (deaths_good claims 0 0 l lines age exposure count q)
-        (fault_from claims (0 + 1) age lines number place (λ z. omega arith) (sym (ap (λ (x : Listed). x.outcome) (step_by claims 0 0 l lines q)) ∙ e)))
-    go (Fault n) q = first_of (fault_here claims 0 0 l lines n number place q (sym (ap (λ (x : Listed). x.outcome) (step_by claims 0 0 l lines q)) ∙ e))
+        (from_later claims 0 w.age w.exposure w.count (row_good claims 0 0 l lines w.age w.exposure w.count q) (deaths_good claims 0 0 l lines w.age w.exposure w.count q)
+        (fault_from claims (0 + 1) w.age lines r (λ z. omega arith) (sym (ap (λ (x : Listed). x.outcome) (step_by claims 0 0 l lines q)) ∙ e)))
+    go (Err fault) q = first_of (fault_here claims 0 0 l lines fault r q (refused_same (sym (ap (λ (x : Listed). x.outcome) (step_by claims 0 0 l lines q)) ∙ e)))
 
 -- ---- the whole text
 cons_head : (claims : Bool) {h : List ℕ} {lines rest : List (List ℕ)} → h ∷ lines ≡ header_of claims ∷ rest → h ≡ header_of claims
 cons_head claims e = cc
 
-lines_fault : (claims : Bool) (text : List ℕ) (all : List (List ℕ)) → lines_of text ≡ all → (number place : ℕ) → (listed_of claims all).outcome ≡ Refused number place
-    → NoHeader claims text number place ⊎ FaultOf claims text number place
-lines_fault claims text [] s number place e =
-    let same = refused_place e in
-    inl (record { headless = λ lines q. none_there (sym s ∙ q); sixteen = sym same.0; one = sym same.1 })
+lines_fault : (claims : Bool) (text : List ℕ) (all : List (List ℕ)) → lines_of text ≡ all → (r : Refusal) → (listed_of claims all).outcome ≡ Err r
+    → NoHeader claims text (number_of r) (place_of r) ⊎ FaultOf claims text (number_of r) (place_of r)
+lines_fault claims text [] s r e =
+    let same = refused_same e in
+    inl (record { headless = λ lines q. none_there (sym s ∙ q); sixteen = sym (ap number_of same); one = sym (ap place_of same) })
   where
     none_there : {lines : List (List ℕ)} → [] ≡ header_of claims ∷ lines → ⊥
     none_there q = clash (cc)
-lines_fault claims text (header ∷ lines) s number place e = go (same_bytes header (header_of claims)) refl
+lines_fault claims text (header ∷ lines) s r e = go (same_bytes header (header_of claims)) refl
   where
-    go : (t : Bool) → same_bytes header (header_of claims) ≡ t → NoHeader claims text number place ⊎ FaultOf claims text number place
+    go : (t : Bool) → same_bytes header (header_of claims) ≡ t → NoHeader claims text (number_of r) (place_of r) ⊎ FaultOf claims text (number_of r) (place_of r)
     go true q =
         let same : listed_of claims (header ∷ lines) ≡ listed_from claims 0 0 lines = rw q in
         inr (record {
           lines = lines;
           headed = s ∙ ap (λ (h : List ℕ). h ∷ lines) (bytes_equal header (header_of claims) q);
-          fault = first_fault claims lines number place (sym (ap (λ (x : Listed). x.outcome) same) ∙ e);
+          fault = first_fault claims lines r (sym (ap (λ (x : Listed). x.outcome) same) ∙ e);
         })
     go false q =
-        let same : listed_of claims (header ∷ lines) ≡ ends_with (Refused 16 1) = rw q in
-        let told = refused_place (sym (ap (λ (x : Listed). x.outcome) same) ∙ e) in
+        let same : listed_of claims (header ∷ lines) ≡ ends_with (Err (BadLine 1)) = rw q in
+        let told = refused_same (sym (ap (λ (x : Listed). x.outcome) same) ∙ e) in
         inl (record {
           headless = λ rest p. true≢false (sym (bytes_same (header_of claims)) ∙ ap (λ (h : List ℕ). same_bytes h (header_of claims)) (sym (cons_head claims (sym s ∙ p))) ∙ q);
-          sixteen = sym told.0;
-          one = sym told.1;
+          sixteen = sym (ap number_of told);
+          one = sym (ap place_of told);
         })
 
 pub lowest_fault : LowestFault
-lowest_fault claims text number place e = lines_fault claims text (lines_of text) refl number place e
+lowest_fault claims text r e = lines_fault claims text (lines_of text) refl r e

@@ -10,12 +10,13 @@ use borrow.Author.Tests.{eq-eqb, eqb-true, eqb-false, ltb-false}
 use lib.Dec.{eqb, ltb}
 use lib.ListN.{length}
 use Rattle.numbers.proofs.Clash.{clash}
-use Rattle.packs.specs.declared.Outcome.TheVariants.{Done, Refused}
-use Rattle.lists.specs.declared.lines.Line.{Line}
-use Rattle.lists.specs.declared.lines.Line.TheVariants.{Entry, Fault}
-use Rattle.lists.specs.declared.lines.Fields.TheVariants.{Numbers}
+use Rattle.refusals.specs.declared.Refusal.{Refusal}
+use Rattle.refusals.specs.declared.Refusal.TheVariants.{BadLine}
+use Rattle.std.specs.Prelude.{Some, Result, Ok, Err}
+use Rattle.lists.specs.declared.lines.Entry.{Entry}
+use Rattle.lists.specs.declared.lines.Fault.{Fault}
 use Rattle.lists.specs.Cut.{lines_of, same_bytes}
-use Rattle.lists.specs.Lines.{most_lines, header_of, in_sequence, tested, line_of, Listed, ends_with, on_line, listed_from, listed_of}
+use Rattle.lists.specs.Lines.{most_lines, header_of, entry_of, in_sequence, tested, line_of, Listed, ends_with, on_line, listed_from, listed_of}
 use Rattle.lists.specs.Promises.{line_text, InRange, Listing, none, line, ReadExactly}
 use Rattle.lists.proofs.Cuts.{bytes_same, bytes_equal}
 use Rattle.lists.proofs.Tests.{Good, line_good, sequence_first, sequence_later, deaths_within, no_deaths, within_120}
@@ -29,14 +30,14 @@ same_length (line r below L) = ap suc (same_length L)
 
 -- ---- a line written out is read
 good_line : (claims : Bool) (k before age exposure count : ℕ) → k < most_lines → InRange claims age exposure count → in_sequence k before age ≡ true
-    → (claims ≡ true → count ≤ exposure) → line_of claims k before (line_text claims age exposure count) ≡ Entry age exposure count
+    → (claims ≡ true → count ≤ exposure) → line_of claims k before (line_text claims age exposure count) ≡ Ok (entry_of age exposure count)
 good_line claims k before age exposure count h r s d =
     sym (
     within_120 claims k before (line_text claims age exposure count) h
     (plain claims refl ∙ ap (tested claims k before) (sym (lines_exactly.written claims age exposure count r)))
     )
   where
-    plain : (t : Bool) → claims ≡ t → Entry age exposure count ≡ tested claims k before (Numbers age exposure count)
+    plain : (t : Bool) → claims ≡ t → Ok (entry_of age exposure count) ≡ tested claims k before (Some (entry_of age exposure count))
     plain true e = deaths_within claims k before age exposure count s e (d e)
     plain false e = no_deaths claims k before age exposure count s e
 
@@ -52,7 +53,7 @@ in_sequence_lem k before age (inr e) = go (eqb k 0) refl
 pub record ReadAs (k : ℕ) (listed : Listed) (exposures counts : List ℕ) : Type 0 where
   pub same_exposures : listed.exposures ≡ exposures
   pub same_counts_lem : listed.counts ≡ counts
-  pub ends : listed.outcome ≡ Done (k + length exposures)
+  pub ends : listed.outcome ≡ Ok (k + length exposures)
 
 read_same : {k : ℕ} {a b : Listed} {exposures counts : List ℕ} → a ≡ b → ReadAs k b exposures counts → ReadAs k a exposures counts
 read_same e r =
@@ -62,15 +63,15 @@ read_same e r =
       ends = ap (λ (x : Listed). x.outcome) e ∙ r.ends;
     }
 
-pub step_by : (claims : Bool) (k before : ℕ) (l : List ℕ) (lines : List (List ℕ)) {x : Line} → line_of claims k before l ≡ x
+pub step_by : (claims : Bool) (k before : ℕ) (l : List ℕ) (lines : List (List ℕ)) {x : Result Entry Fault} → line_of claims k before l ≡ x
     → listed_from claims k before (l ∷ lines) ≡ on_line x (k + 2) (λ age. listed_from claims (k + 1) age lines)
 step_by claims k before l lines e =
-    listed_step claims k before l lines ∙ ap (λ (x : Line). on_line x (k + 2) (λ age. listed_from claims (k + 1) age lines)) e
+    listed_step claims k before l lines ∙ ap (λ (x : Result Entry Fault). on_line x (k + 2) (λ age. listed_from claims (k + 1) age lines)) e
 
 pub listing_read : (claims : Bool) (k before : ℕ) {age : ℕ} {lines : List (List ℕ)} {exposures counts : List ℕ} → Listing claims age lines exposures counts
     → k + length exposures ≤ most_lines → (k ≡ 0) ⊎ (age ≡ before + 1) → ReadAs k (listed_from claims k before lines) exposures counts
 listing_read claims k before none h s =
-    read_same (listed_end claims k before) (record { same_exposures = refl; same_counts_lem = refl; ends = ap Done (omega arith) })
+    read_same (listed_end claims k before) (record { same_exposures = refl; same_counts_lem = refl; ends = ap Ok (omega arith) })
 listing_read claims k before {age} (line {exposure = exposure} {count = count} {lines = lines} {exposures = exposures} r d L) h s =
     let step = step_by claims k before (line_text claims age exposure count) lines (good_line claims k before age exposure count (omega arith) r (in_sequence_lem k before age s) d) in
     let rest = listing_read claims (k + 1) age L (omega arith) (inr refl) in
@@ -78,7 +79,7 @@ listing_read claims k before {age} (line {exposure = exposure} {count = count} {
     read_same step (record {
       same_exposures = ap (λ (xs : List ℕ). exposure ∷ xs) rest.same_exposures;
       same_counts_lem = ap (λ (xs : List ℕ). count ∷ xs) rest.same_counts_lem;
-      ends = rest.ends ∙ ap Done n;
+      ends = rest.ends ∙ ap Ok n;
     })
 
 -- ---- what was read was such lines
@@ -86,7 +87,7 @@ deaths_of : (claims : Bool) (exposure count : ℕ) → (claims && ltb exposure c
 deaths_of true exposure count e t = ltb-false exposure count e
 deaths_of false exposure count e t = clash (cc)
 
-module _ (claims : Bool) (k before : ℕ) (l : List ℕ) (lines : List (List ℕ)) (age exposure count : ℕ) (e : line_of claims k before l ≡ Entry age exposure count) where
+module _ (claims : Bool) (k before : ℕ) (l : List ℕ) (lines : List (List ℕ)) (age exposure count : ℕ) (e : line_of claims k before l ≡ Ok (entry_of age exposure count)) where
   good : Good claims k before l age exposure count
   good = line_good claims k before l age exposure count e
 
@@ -105,39 +106,39 @@ module _ (claims : Bool) (k before : ℕ) (l : List ℕ) (lines : List (List ℕ
       let step = step_by claims k before l lines e in
       rw (ap (λ (x : Listed). x.exposures) step, ap (λ (x : Listed). x.counts) step, row_good.1) (line row_good.0 deaths_good L)
 
-refused_done : {number place n : ℕ} → Refused number place ≡ Done n → ⊥
+refused_done : {r : Refusal} {n : ℕ} → Err r ≡ Ok n → ⊥
 refused_done e = clash (cc)
 
-pub listing_of : (claims : Bool) (k before : ℕ) (lines : List (List ℕ)) (n : ℕ) → (k ≡ 0 → ⊥) → (listed_from claims k before lines).outcome ≡ Done n
+pub listing_of : (claims : Bool) (k before : ℕ) (lines : List (List ℕ)) (n : ℕ) → (k ≡ 0 → ⊥) → (listed_from claims k before lines).outcome ≡ Ok n
     → Listing claims (before + 1) lines (listed_from claims k before lines).exposures (listed_from claims k before lines).counts
 listing_of claims k before [] n h e =
     rw (ap (λ (x : Listed). x.exposures) (listed_end claims k before), ap (λ (x : Listed). x.counts) (listed_end claims k before)) none
 listing_of claims k before (l ∷ lines) n h e = go (line_of claims k before l) refl (λ age q. listing_of claims (k + 1) age lines n (λ z. omega arith) q)
   where
-    go : (x : Line) → line_of claims k before l ≡ x
-        → ((age : ℕ) → (listed_from claims (k + 1) age lines).outcome ≡ Done n
+    go : (x : Result Entry Fault) → line_of claims k before l ≡ x
+        → ((age : ℕ) → (listed_from claims (k + 1) age lines).outcome ≡ Ok n
         → Listing claims (age + 1) lines (listed_from claims (k + 1) age lines).exposures (listed_from claims (k + 1) age lines).counts)
         → Listing claims (before + 1) (l ∷ lines) (listed_from claims k before (l ∷ lines)).exposures (listed_from claims k before (l ∷ lines)).counts
-    go (Entry age exposure count) q ih =
-        rw (← age_due claims k before l lines age exposure count q h)
-        (step_listing claims k before l lines age exposure count q (ih age (sym (ap (λ (x : Listed). x.outcome) (step_by claims k before l lines q)) ∙ e)))
-    go (Fault number) q ih = absurd (refused_done (sym (ap (λ (x : Listed). x.outcome) (step_by claims k before l lines q)) ∙ e))
+    go (Ok entry) q ih =
+        rw (← age_due claims k before l lines entry.age entry.exposure entry.count q h)
+        (step_listing claims k before l lines entry.age entry.exposure entry.count q (ih entry.age (sym (ap (λ (x : Listed). x.outcome) (step_by claims k before l lines q)) ∙ e)))
+    go (Err fault) q ih = absurd (refused_done (sym (ap (λ (x : Listed). x.outcome) (step_by claims k before l lines q)) ∙ e))
 
 -- the first age is free
-pub listing_first : (claims : Bool) (lines : List (List ℕ)) (n : ℕ) → (listed_from claims 0 0 lines).outcome ≡ Done n
+pub listing_first : (claims : Bool) (lines : List (List ℕ)) (n : ℕ) → (listed_from claims 0 0 lines).outcome ≡ Ok n
     → (first : ℕ) × Listing claims first lines (listed_from claims 0 0 lines).exposures (listed_from claims 0 0 lines).counts
 listing_first claims [] n e =
     (0, rw (ap (λ (x : Listed). x.exposures) (listed_end claims 0 0), ap (λ (x : Listed). x.counts) (listed_end claims 0 0)) none)
 listing_first claims (l ∷ lines) n e = go (line_of claims 0 0 l) refl
   where
-    go : (x : Line) → line_of claims 0 0 l ≡ x
+    go : (x : Result Entry Fault) → line_of claims 0 0 l ≡ x
         → (first : ℕ) × Listing claims first (l ∷ lines) (listed_from claims 0 0 (l ∷ lines)).exposures (listed_from claims 0 0 (l ∷ lines)).counts
-    go (Entry age exposure count) q = (
-      age,
-      step_listing claims 0 0 l lines age exposure count q
-          (listing_of claims (0 + 1) age lines n (λ z. omega arith) (sym (ap (λ (x : Listed). x.outcome) (step_by claims 0 0 l lines q)) ∙ e)),
+    go (Ok entry) q = (
+      entry.age,
+      step_listing claims 0 0 l lines entry.age entry.exposure entry.count q
+          (listing_of claims (0 + 1) entry.age lines n (λ z. omega arith) (sym (ap (λ (x : Listed). x.outcome) (step_by claims 0 0 l lines q)) ∙ e)),
     )
-    go (Fault number) q = absurd (refused_done (sym (ap (λ (x : Listed). x.outcome) (step_by claims 0 0 l lines q)) ∙ e))
+    go (Err fault) q = absurd (refused_done (sym (ap (λ (x : Listed). x.outcome) (step_by claims 0 0 l lines q)) ∙ e))
 
 -- ---- a whole list
 pub record WholeList (claims : Bool) (all : List (List ℕ)) : Type 0 where
@@ -146,7 +147,7 @@ pub record WholeList (claims : Bool) (all : List (List ℕ)) : Type 0 where
   pub headed : all ≡ header_of claims ∷ lines
   pub listing : Listing claims first lines (listed_of claims all).exposures (listed_of claims all).counts
 
-pub whole_list : (claims : Bool) (all : List (List ℕ)) (n : ℕ) → (listed_of claims all).outcome ≡ Done n → WholeList claims all
+pub whole_list : (claims : Bool) (all : List (List ℕ)) (n : ℕ) → (listed_of claims all).outcome ≡ Ok n → WholeList claims all
 whole_list claims [] n e = absurd (refused_done e)
 whole_list claims (header ∷ lines) n e = go (same_bytes header (header_of claims)) refl
   where
@@ -161,7 +162,7 @@ whole_list claims (header ∷ lines) n e = go (same_bytes header (header_of clai
           listing = rw (ap (λ (x : Listed). x.exposures) same, ap (λ (x : Listed). x.counts) same) found.1;
         }
     go false q =
-        let same : listed_of claims (header ∷ lines) ≡ ends_with (Refused 16 1) = rw q in
+        let same : listed_of claims (header ∷ lines) ≡ ends_with (Err (BadLine 1)) = rw q in
         absurd (refused_done (sym (ap (λ (x : Listed). x.outcome) same) ∙ e))
 
 pub headed_read : (claims : Bool) {all lines : List (List ℕ)} {first : ℕ} {exposures counts : List ℕ} → all ≡ header_of claims ∷ lines → Listing claims first lines exposures counts
@@ -173,7 +174,7 @@ headed_read claims {all} {lines} e L h =
 pub read_exactly : ReadExactly
 read_exactly =
     record {
-      read = λ claims text exposures counts L. let r = headed_read claims L.headed L.listing L.few in (r.same_exposures, r.same_counts_lem, r.ends ∙ ap Done (zero-add (length exposures)));
+      read = λ claims text exposures counts L. let r = headed_read claims L.headed L.listing L.few in (r.same_exposures, r.same_counts_lem, r.ends ∙ ap Ok (zero-add (length exposures)));
       only = λ claims text n e.
           let w = whole_list claims (lines_of text) n e in
           let c = list_count claims (lines_of text) n e in

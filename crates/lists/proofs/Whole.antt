@@ -1,19 +1,19 @@
 -- A whole list: how many lines it has, and that the scratch it is read into holds them.
-use Prim.Native.Nat.{ℕ, ◌+◌, ◌-◌, ◌≤◌}
+use Prim.Native.Nat.{ℕ, ◌+◌, ◌≤◌}
 use mathlib.Core.Path.{◌≡◌, refl, sym, ap, ◌∙◌}
 use mathlib.Core.Bool.{Bool, true, false}
 use mathlib.Core.List.{List, [], ◌∷◌}
 use native.Mathlib.Omega.{arith}
 use lib.ListN.{length, take, drop, replicate, length-replicate}
 use lib.Seq.{sets, sets-eq, length-sets, take_at}
-use Rattle.std.specs.Prelude.{if◌then◌else◌}
+use Rattle.std.specs.Prelude.{Result, Ok, Err, if◌then◌else◌}
 use Rattle.numbers.proofs.Clash.{clash}
-use Rattle.packs.specs.declared.Outcome.{Outcome}
-use Rattle.packs.specs.declared.Outcome.TheVariants.{Done, Refused}
-use Rattle.lists.specs.declared.lines.Line.{Line}
-use Rattle.lists.specs.declared.lines.Line.TheVariants.{Entry, Fault}
+use Rattle.refusals.specs.declared.Refusal.{Refusal}
+use Rattle.refusals.specs.declared.Refusal.TheVariants.{BadLine}
+use Rattle.lists.specs.declared.lines.Entry.{Entry}
+use Rattle.lists.specs.declared.lines.Fault.{Fault}
 use Rattle.lists.specs.Cut.{lines_of, same_bytes}
-use Rattle.lists.specs.Lines.{most_lines, header_of, line_of, Listed, ends_with, on_line, listed_from, listed_of, ListRead}
+use Rattle.lists.specs.Lines.{most_lines, header_of, line_of, refusal_at, Listed, ends_with, on_line, listed_from, listed_of, ListRead}
 use Rattle.lists.proofs.Tests.{line_good}
 use Rattle.lists.proofs.Walks.{listed_step, listed_end}
 
@@ -31,33 +31,33 @@ counted_same {k} {n} e c =
       few = c.few;
     }
 
-pub listed_count : (claims : Bool) (k before : ℕ) (lines : List (List ℕ)) (n : ℕ) → k ≤ most_lines → (listed_from claims k before lines).outcome ≡ Done n
+pub listed_count : (claims : Bool) (k before : ℕ) (lines : List (List ℕ)) (n : ℕ) → k ≤ most_lines → (listed_from claims k before lines).outcome ≡ Ok n
     → Counted k (listed_from claims k before lines) n
 listed_count claims k before [] n h e =
     let q : k ≡ n = cc (ap (λ (x : Listed). x.outcome) (listed_end claims k before)) in
     counted_same (listed_end claims k before) (record { exposures = omega arith; counts = omega arith; few = omega arith })
 listed_count claims k before (line ∷ lines) n h e = go (line_of claims k before line) refl (λ age m. listed_count claims (k + 1) age lines n m)
   where
-    go : (l : Line) → line_of claims k before line ≡ l
-        → ((age : ℕ) → k + 1 ≤ most_lines → (listed_from claims (k + 1) age lines).outcome ≡ Done n → Counted (k + 1) (listed_from claims (k + 1) age lines) n)
+    go : (l : Result Entry Fault) → line_of claims k before line ≡ l
+        → ((age : ℕ) → k + 1 ≤ most_lines → (listed_from claims (k + 1) age lines).outcome ≡ Ok n → Counted (k + 1) (listed_from claims (k + 1) age lines) n)
         → Counted k (listed_from claims k before (line ∷ lines)) n
-    go (Entry age exposure count) q ih =
-        let step : listed_from claims k before (line ∷ lines) ≡ on_line (Entry age exposure count) (k + 2) (λ a. listed_from claims (k + 1) a lines) =
-        listed_step claims k before line lines ∙ ap (λ (l : Line). on_line l (k + 2) (λ a. listed_from claims (k + 1) a lines)) q in
-        let c = ih age (omega (arith, (line_good claims k before line age exposure count q).few)) (sym (ap (λ (x : Listed). x.outcome) step) ∙ e) in
+    go (Ok entry) q ih =
+        let step : listed_from claims k before (line ∷ lines) ≡ on_line (Ok entry) (k + 2) (λ a. listed_from claims (k + 1) a lines) =
+        listed_step claims k before line lines ∙ ap (λ (l : Result Entry Fault). on_line l (k + 2) (λ a. listed_from claims (k + 1) a lines)) q in
+        let c = ih entry.age (omega (arith, (line_good claims k before line entry.age entry.exposure entry.count q).few)) (sym (ap (λ (x : Listed). x.outcome) step) ∙ e) in
         counted_same step (record { exposures = omega (arith, c.exposures); counts = omega (arith, c.counts); few = c.few })
-    go (Fault number) q ih =
-        let step : listed_from claims k before (line ∷ lines) ≡ ends_with (Refused number (k + 2)) =
-        listed_step claims k before line lines ∙ ap (λ (l : Line). on_line l (k + 2) (λ a. listed_from claims (k + 1) a lines)) q in
-        let stops : Refused number (k + 2) ≡ Done n = sym (ap (λ (x : Listed). x.outcome) step) ∙ e in
+    go (Err fault) q ih =
+        let step : listed_from claims k before (line ∷ lines) ≡ ends_with (Err (refusal_at fault (k + 2))) =
+        listed_step claims k before line lines ∙ ap (λ (l : Result Entry Fault). on_line l (k + 2) (λ a. listed_from claims (k + 1) a lines)) q in
+        let stops : Err (refusal_at fault (k + 2)) ≡ Ok n = sym (ap (λ (x : Listed). x.outcome) step) ∙ e in
         clash (cc)
 
-pub list_count : (claims : Bool) (lines : List (List ℕ)) (n : ℕ) → (listed_of claims lines).outcome ≡ Done n → Counted 0 (listed_of claims lines) n
+pub list_count : (claims : Bool) (lines : List (List ℕ)) (n : ℕ) → (listed_of claims lines).outcome ≡ Ok n → Counted 0 (listed_of claims lines) n
 list_count claims [] n e = clash (cc)
 list_count claims (header ∷ lines) n e = go (same_bytes header (header_of claims)) e
   where
-    go : (t : Bool) → (if t then listed_from claims 0 0 lines else ends_with (Refused 16 1)).outcome ≡ Done n
-        → Counted 0 (if t then listed_from claims 0 0 lines else ends_with (Refused 16 1)) n
+    go : (t : Bool) → (if t then listed_from claims 0 0 lines else ends_with (Err (BadLine 1))).outcome ≡ Ok n
+        → Counted 0 (if t then listed_from claims 0 0 lines else ends_with (Err (BadLine 1))) n
     go true e = listed_count claims 0 0 lines n (omega arith) e
     go false e = clash (cc)
 
@@ -70,12 +70,12 @@ kept_long : (values stored : List ℕ) → stored ≡ sets (replicate 120 0) 0 v
 kept_long values stored s = ap length s ∙ length-sets (replicate 120 0) 0 values ∙ length-replicate {A = ℕ} 120 0
 
 -- the lists that were read stand in the scratch
-module _ (claims : Bool) (text : List ℕ) {o : Outcome} {n : ℕ} {es ds : List ℕ}
-    (L : ListRead (listed_of claims (lines_of text)) (replicate 120 0) (replicate 120 0) o es ds) (d : o ≡ Done n) where
+module _ (claims : Bool) (text : List ℕ) {o : Result ℕ Refusal} {n : ℕ} {es ds : List ℕ}
+    (L : ListRead (listed_of claims (lines_of text)) (replicate 120 0) (replicate 120 0) o es ds) (d : o ≡ Ok n) where
   listed : Listed
   listed = listed_of claims (lines_of text)
 
-  pub done : (listed_of claims (lines_of text)).outcome ≡ Done n
+  pub done : (listed_of claims (lines_of text)).outcome ≡ Ok n
   done = sym L.ends ∙ d
 
   count : Counted 0 (listed_of claims (lines_of text)) n

@@ -1,12 +1,12 @@
 -- What is promised of reading a comma list, be it a claims list or a table.
 use Rattle.std.specs.Prelude.{ℕ, ◌+◌, ◌≤◌, ◌<◌, ◌≡◌, ◌⊎◌, Bool, true, false, List, [], ◌∷◌, ◌++◌, length}
-use Rattle.std.specs.Prelude.{if◌then◌else◌}
-use Rattle.packs.specs.declared.Outcome.TheVariants.{Done, Refused}
+use Rattle.std.specs.Prelude.{Some, Ok, Err, if◌then◌else◌}
+use Rattle.refusals.specs.declared.Refusal.{Refusal}
+use Rattle.refusals.specs.Refusals.{number_of, place_of}
 use Rattle.decimals.specs.Decimal.{decimal}
 use Rattle.decimals.specs.Whole.{largest}
-use Rattle.lists.specs.declared.lines.Fields.TheVariants.{Numbers}
 use Rattle.lists.specs.Cut.{line_end, lines_of}
-use Rattle.lists.specs.Lines.{most_lines, header_of, fields_of, listed_of}
+use Rattle.lists.specs.Lines.{most_lines, header_of, entry_of, fields_of, listed_of}
 
 -- ---- lines
 
@@ -33,8 +33,8 @@ pub record InRange (claims : Bool) (age exposure count : ℕ) : Type 0 where
 
 -- A line is well formed exactly if it is its numbers written out.
 pub record LinesExactly : Type 0 where
-  pub written : (claims : Bool) (age exposure count : ℕ) → InRange claims age exposure count → fields_of claims (line_text claims age exposure count) ≡ Numbers age exposure count
-  pub only : (claims : Bool) (line : List ℕ) (age exposure count : ℕ) → fields_of claims line ≡ Numbers age exposure count
+  pub written : (claims : Bool) (age exposure count : ℕ) → InRange claims age exposure count → fields_of claims (line_text claims age exposure count) ≡ Some (entry_of age exposure count)
+  pub only : (claims : Bool) (line : List ℕ) (age exposure count : ℕ) → fields_of claims line ≡ Some (entry_of age exposure count)
       → InRange claims age exposure count × (line ≡ line_text claims age exposure count)
 
 -- ---- lists
@@ -57,8 +57,8 @@ pub record ListText (claims : Bool) (text : List ℕ) (exposures counts : List �
 pub record ReadExactly : Type 0 where
   pub read : (claims : Bool) (text exposures counts : List ℕ) → ListText claims text exposures counts
       → ((listed_of claims (lines_of text)).exposures ≡ exposures) × ((listed_of claims (lines_of text)).counts ≡ counts)
-      × ((listed_of claims (lines_of text)).outcome ≡ Done (length exposures))
-  pub only : (claims : Bool) (text : List ℕ) (n : ℕ) → (listed_of claims (lines_of text)).outcome ≡ Done n
+      × ((listed_of claims (lines_of text)).outcome ≡ Ok (length exposures))
+  pub only : (claims : Bool) (text : List ℕ) (n : ℕ) → (listed_of claims (lines_of text)).outcome ≡ Ok n
       → ListText claims text (listed_of claims (lines_of text)).exposures (listed_of claims (lines_of text)).counts
 
 -- ---- faults
@@ -101,5 +101,5 @@ pub record FaultOf (claims : Bool) (text : List ℕ) (number place : ℕ) : Type
 -- The line named is the first faulty one, and the number is the first that applies on it.
 abbrev pub LowestFault : Type 0
 LowestFault =
-    (claims : Bool) (text : List ℕ) (number place : ℕ) → (listed_of claims (lines_of text)).outcome ≡ Refused number place
-    → NoHeader claims text number place ⊎ FaultOf claims text number place
+    (claims : Bool) (text : List ℕ) (r : Refusal) → (listed_of claims (lines_of text)).outcome ≡ Err r
+    → NoHeader claims text (number_of r) (place_of r) ⊎ FaultOf claims text (number_of r) (place_of r)

@@ -1,83 +1,59 @@
-// One line of a list: its fields, and what is wrong with it, if anything.
+// One line of a list: its numbers, or what is wrong with it.
 ghost use Rattle.std.specs.Prelude.{◌≡◌, ◌≤◌};
 ghost use Rattle.decimals.specs.Whole.{largest};
-ghost use Rattle.lists.specs.Lines.{two_of, pair_of, three_of, fields_of, in_sequence, tested, line_of, header_of};
+ghost use Rattle.lists.specs.Lines.{pair_of, fields_of, in_sequence, tested, line_of, header_of, refusal_at};
 ghost use Rattle.lists.specs.Cut.{same_bytes};
-ghost use Rattle.lists.specs.declared.lines.Fields.TheVariants.{Numbers};
 
-use crate::cut::comma_in;
-use decimals::reading::{Whole, whole_of};
+use crate::cut::parted;
+use decimals::reading::whole_of;
+use refusals::Refusal;
 
 // The numbers of a line: age, exposure and deaths; or age, 0 and rate.
 #[derive(Clone, Copy)]
-pub enum Fields {
-    Numbers(u64, u64, u64),
-    Bad,
+pub struct Entry {
+    pub age: u64,
+    pub exposure: u64,
+    pub count: u64,
 }
 
-// What a line comes to: its numbers, or the number of its fault.
+// What is wrong with a line. Whoever counts the lines tells which it is: `line_of` takes every k, also one that has no line's number.
 #[derive(Clone, Copy)]
-pub enum Line {
-    Entry(u64, u64, u64),
-    Fault(u64),
+pub enum Fault {
+    Malformed,
+    Sequence,
+    Deaths,
 }
 
 // The most lines of data.
 pub const MOST_LINES: usize = 120;
 
-fn two_of(age: Whole, count: Whole) -> Fields
-    ensures { result ≡ two_of age count }
-{
-    match age {
-        Whole::Number(a) => match count {
-            Whole::Number(b) => Fields::Numbers(a, 0, b),
-            Whole::Malformed => Fields::Bad,
-        },
-        Whole::Malformed => Fields::Bad,
-    }
-}
-
 // A line of two fields.
-fn pair_of(line: &[u8]) -> Fields
+fn pair_of(line: &[u8]) -> Option<Entry>
     ensures { result ≡ pair_of line.now }
 {
-    let n = comma_in(line);
-    if line.len() <= n {
-        return Fields::Bad;
-    }
-    let next = n + 1;
-    let age = whole_of(&line[0..n]);
-    let count = whole_of(&line[next..]);
-    two_of(age, count)
-}
-
-fn three_of(age: Whole, later: Fields) -> Fields
-    ensures { result ≡ three_of age later }
-{
-    match age {
-        Whole::Number(a) => match later {
-            Fields::Numbers(exposure, _, count) => Fields::Numbers(a, exposure, count),
-            Fields::Bad => Fields::Bad,
-        },
-        Whole::Malformed => Fields::Bad,
-    }
+    let (age, count) = parted(line)?;
+    Some(Entry {
+        age: whole_of(age)?,
+        exposure: 0,
+        count: whole_of(count)?,
+    })
 }
 
 // The fields of a line: three of a claims list, two of an export.
-fn fields_of(claims: bool, line: &[u8]) -> Fields
+fn fields_of(claims: bool, line: &[u8]) -> Option<Entry>
     ensures { result ≡ fields_of claims line.now }
 {
-    if claims {
-        let n = comma_in(line);
-        if line.len() <= n {
-            return Fields::Bad;
-        }
-        let next = n + 1;
-        let age = whole_of(&line[0..n]);
-        let later = pair_of(&line[next..]);
-        return three_of(age, later);
+    if !claims {
+        return pair_of(line);
     }
-    pair_of(line)
+    let (age, later) = parted(line)?;
+    let age = whole_of(age)?;
+    let later = pair_of(later)?;
+    Some(Entry {
+        age,
+        exposure: later.age,
+        count: later.count,
+    })
 }
 
 // Whether the age of a line after k others, the last of which had the age `before`, is in sequence.
@@ -85,51 +61,44 @@ fn follows(k: usize, before: u64, age: u64) -> bool
     requires { before ≤ largest }
     ensures { result ≡ in_sequence k before age }
 {
-    if k == 0 {
-        return true;
-    }
-    let next = before + 1;
-    age == next
+    k == 0 || age == before + 1
 }
 
 // A line's numbers after k lines of data, the last of which had the age `before`.
-fn numbers_tested(claims: bool, k: usize, before: u64, age: u64, exposure: u64, count: u64) -> Line
+fn tested(claims: bool, k: usize, before: u64, entry: Entry) -> Result<Entry, Fault>
     requires { before ≤ largest }
-    ensures { result ≡ tested claims k before (Numbers age exposure count) }
+    ensures { result ≡ tested claims k before (Some entry) }
 {
-    if follows(k, before, age) {
-        if claims {
-            if exposure < count {
-                return Line::Fault(18);
-            }
-        }
-        return Line::Entry(age, exposure, count);
+    if !follows(k, before, entry.age) {
+        return Err(Fault::Sequence);
     }
-    Line::Fault(17)
-}
-
-fn fields_tested(claims: bool, k: usize, before: u64, fields: Fields) -> Line
-    requires { before ≤ largest }
-    ensures { result ≡ tested claims k before fields }
-{
-    match fields {
-        Fields::Numbers(age, exposure, count) => numbers_tested(
-            claims, k, before, age, exposure, count,
-        ),
-        Fields::Bad => Line::Fault(16),
+    if claims && entry.exposure < entry.count {
+        return Err(Fault::Deaths);
     }
+    Ok(entry)
 }
 
 // A line of data after k others.
-pub fn line_of(claims: bool, k: usize, before: u64, line: &[u8]) -> Line
+pub fn line_of(claims: bool, k: usize, before: u64, line: &[u8]) -> Result<Entry, Fault>
     requires { before ≤ largest }
     ensures { result ≡ line_of claims k before line.now }
 {
-    if k < MOST_LINES {
-        let fields = fields_of(claims, line);
-        return fields_tested(claims, k, before, fields);
+    if k >= MOST_LINES {
+        return Err(Fault::Malformed);
     }
-    Line::Fault(16)
+    let entry = fields_of(claims, line).ok_or(Fault::Malformed)?;
+    tested(claims, k, before, entry)
+}
+
+// The refusal of a fault on that line.
+pub fn refusal_at(fault: Fault, line: usize) -> Refusal
+    ensures { result ≡ refusal_at fault line }
+{
+    match fault {
+        Fault::Malformed => Refusal::BadLine(line),
+        Fault::Sequence => Refusal::OutOfSequence(line),
+        Fault::Deaths => Refusal::DeathsAbove(line),
+    }
 }
 
 // Whether a line is the header.
@@ -137,7 +106,7 @@ pub fn is_header(claims: bool, line: &[u8]) -> bool
     ensures { result ≡ same_bytes line.now (header_of claims) }
 {
     if claims {
-        return check::same(line, b"age,exposure,deaths");
+        return line == b"age,exposure,deaths".as_slice();
     }
-    check::same(line, b"age,rate")
+    line == b"age,rate".as_slice()
 }

@@ -2,11 +2,11 @@
 ghost use Rattle.std.specs.Prelude.{◌≡◌, ◌+◌, ◌≤◌, length, set, drop};
 ghost use Rattle.decimals.specs.Whole.{largest};
 ghost use Rattle.lists.specs.Cut.{lines_of};
-ghost use Rattle.lists.specs.Lines.{listed_from, listed_of, ListRead};
+ghost use Rattle.lists.specs.Lines.{most_lines, line_of, refused_at, listed_from, listed_of, ListRead};
 
 use crate::cut::break_from;
-use crate::lines::{Line, is_header, line_of};
-use packs::Outcome;
+use crate::lines::{Entry, is_header, line_of, refusal_at};
+use refusals::Refusal;
 
 // Sets the word at k, where there is one.
 fn store(kept: &mut [u32], k: usize, x: u64)
@@ -18,6 +18,15 @@ fn store(kept: &mut [u32], k: usize, x: u64)
     }
 }
 
+// The line of data after k others, or its refusal: "the header is 1".
+fn entry_at(claims: bool, k: usize, before: u64, line: &[u8]) -> Result<Entry, Refusal>
+    requires { (before ≤ largest) × (k ≤ most_lines) }
+    ensures { result ≡ refused_at (k + 2) (line_of claims k before line.now) }
+{
+    let place = k + 2;
+    line_of(claims, k, before, line).map_err(|fault| refusal_at(fault, place))
+}
+
 // The lines of data, from the offset `from` on. What stands before a fault is stored too: lend it room of your own.
 fn read_lines(
     text: &[u8],
@@ -25,40 +34,37 @@ fn read_lines(
     from: usize,
     exposures: &mut [u32],
     counts: &mut [u32],
-) -> Outcome
+) -> Result<usize, Refusal>
     requires { from ≤ length text.now + 2 }
     ensures { ListRead (listed_from claims 0 0 (lines_of (drop from text.now))) exposures.old counts.old result exposures.new counts.new }
 {
     let mut at = from;
-    let mut k: usize = 0;
-    let mut before: u64 = 0;
+    let mut k = 0;
+    let mut before = 0;
     while at < text.len() {
         let end = break_from(text, at);
-        let line = line_of(claims, k, before, &text[at..end]);
-        match line {
-            Line::Entry(age, exposure, count) => {
-                store(exposures, k, exposure);
-                store(counts, k, count);
-                before = age;
-                k += 1;
-                at = end + 2;
-            }
-            Line::Fault(number) => {
-                return Outcome::Refused(number, k + 2);
-            }
-        }
+        let entry = entry_at(claims, k, before, &text[at..end])?;
+        store(exposures, k, entry.exposure);
+        store(counts, k, entry.count);
+        before = entry.age;
+        k += 1;
+        at = end + 2;
     }
-    Outcome::Done(k)
+    Ok(k)
 }
 
 // A whole list: how many lines of data it has, or its first fault with the line's number. Exposures and counts are stored up to a fault.
-pub fn read_list(text: &[u8], claims: bool, exposures: &mut [u32], counts: &mut [u32]) -> Outcome
+pub fn read_list(
+    text: &[u8],
+    claims: bool,
+    exposures: &mut [u32],
+    counts: &mut [u32],
+) -> Result<usize, Refusal>
     ensures { ListRead (listed_of claims (lines_of text.now)) exposures.old counts.old result exposures.new counts.new }
 {
     let end = break_from(text, 0);
-    if is_header(claims, &text[0..end]) {
-        let from = end + 2;
-        return read_lines(text, claims, from, exposures, counts);
+    if !is_header(claims, &text[..end]) {
+        return Err(Refusal::BadLine(1));
     }
-    Outcome::Refused(16, 1)
+    read_lines(text, claims, end + 2, exposures, counts)
 }

@@ -4,6 +4,7 @@ pub mod Parts
 pub mod Spans
 pub mod Rows
 pub mod Society
+pub mod Copied
 pub mod Answered
 pub mod Judged
 pub mod Sound

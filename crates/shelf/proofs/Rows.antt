@@ -7,15 +7,14 @@ use native.Mathlib.Omega.{arith}
 use lib.Dec.{leb}
 use lib.ListN.{length}
 use borrow.Author.Tests.{leb-true}
-use Rattle.counts.specs.declared.Row.TheVariants.{Right}
-use Rattle.counts.specs.Counts.{societies, shelf_words, count_in, test_row, row_in, Ready}
+use Rattle.counts.specs.Counts.{societies, shelf_words, count_in, passed, test_row, row_in, Ready}
 use Rattle.counts.proofs.Below.{below_apart}
 use Rattle.counts.proofs.Tests.{right_allotted, row_inside}
 use Rattle.shelf.specs.Shelf.{rowed, layout_in, size_of, span_of, on_part, on_society}
 use Rattle.shelf.proofs.Parts.{on_before}
 use Rattle.shelf.proofs.Spans.{Lawful}
 
-pub rowed_lawful : (row : List ℕ) → test_row row ≡ Right → Lawful (rowed row)
+pub rowed_lawful : (row : List ℕ) → test_row row ≡ passed → Lawful (rowed row)
 rowed_lawful row e =
     let r = right_allotted row e in
     let c = count_in row in
@@ -32,7 +31,7 @@ module _ (shelf : List ℕ) (r : Ready shelf) where
   ready_lawful = rowed_lawful (row_in shelf) r.row
 
 -- ---- no call but clearing changes the row
-pub row_stays : (row : List ℕ) → test_row row ≡ Right → (s : ℕ) (f : List ℕ → List ℕ) (xs : List ℕ) → length xs ≡ shelf_words
+pub row_stays : (row : List ℕ) → test_row row ≡ passed → (s : ℕ) (f : List ℕ → List ℕ) (xs : List ℕ) → length xs ≡ shelf_words
     → (s ≤ 7 → length (f (span_of (rowed row) s xs)) ≡ size_of (rowed row) s) → row_in (on_society (rowed row) s f xs) ≡ row_in xs
 unfolding on_society
 row_stays row e s f xs len same = go (leb s 7) refl

@@ -1,6 +1,4 @@
 -- Laws that several proofs cite.
-pub mod Copied
-pub mod Shifted
 pub mod Stored
 pub mod Sizes
 pub mod Lowest

@@ -1,13 +1,14 @@
 -- A span after a part of it was lent to a move: a slot put, every slot moved down, one slot dropped. For any w.
-use mathlib.Core.Path.{◌≡◌, sym, ap, ◌∙◌}
-use mathlib.Core.List.{List, [], ◌++◌, append-nil, append_assoc}
+use mathlib.Core.Path.{◌≡◌, refl, sym, ap, ◌∙◌}
+use mathlib.Core.List.{List, ◌++◌, append_assoc}
 use Prim.Native.Nat.{ℕ, ◌+◌, ◌-◌, ◌*◌, ◌≤◌}
 use native.Mathlib.Omega.{arith}
-use lib.ListN.{length, take, drop, replicate, length-drop, length-append, drop_of_length-le}
-use lib.Seq.{length-take-le, take_all, drop-drop, take_at, drop_at}
-use borrow.Rule.Slice.PartMut.{put_mid, mid_of, post_of}
+use lib.ListN.{length, take, drop, replicate, length-drop, length-append}
+use lib.Seq.{length-take-le, take_all, drop-drop, drop_at, paste}
+use borrow.Rule.Slice.PartMut.{put_mid, mid_of}
 use Rattle.slots.specs.Slots.{put_slot, dropped_slot, pushed}
 use Rattle.slots.proofs.Sizes.{slot_end}
+use Rattle.slots.proofs.Stored.{put_last}
 
 pub put_is : (w p : ℕ) (s x y : List ℕ) → y ≡ x → put_mid (w * p) (w * p + w - w * p) s y ≡ put_slot w p x s
 unfolding put_slot
@@ -17,68 +18,45 @@ put_is w p s x y e =
     ∙ ap (λ (r : List ℕ). take (w * p) s ++ (r ++ drop w (drop (w * p) s))) e
     ∙ ap (λ (r : List ℕ). take (w * p) s ++ (x ++ r)) (drop-drop w (w * p) s ∙ ap (λ (n : ℕ). drop n s) (sym (slot_end w p)))
 
--- ys is a span of n words, kept but for its last w
-module _ (w n : ℕ) (k : w ≤ n) (front last ys : List ℕ) (cut : ys ≡ front ++ last) (fl : length front ≡ n - w) (ll : length last ≡ w) where
-  last_put : (x : List ℕ) → put_mid (n - w) (n - (n - w)) ys x ≡ front ++ x
-  last_put x =
-      let e : n - (n - w) ≡ w = omega arith in
-      let t : take (n - w) ys ≡ front = ap (take (n - w)) cut ∙ take_at front last (n - w) fl in
-      let d : drop (n - w) ys ≡ last = ap (drop (n - w)) cut ∙ drop_at front last (n - w) fl in
-      let none : post_of (n - w) (n - (n - w)) ys ≡ [] = ap (drop (n - (n - w))) d ∙ drop_of_length-le last {i = n - (n - w)} (omega arith) in
-      ap (λ (r : List ℕ). r ++ (x ++ post_of (n - w) (n - (n - w)) ys)) t ∙ ap (λ (r : List ℕ). front ++ (x ++ r)) none ∙ ap (λ (r : List ℕ). front ++ r) (append-nil x)
+-- ---- the words from a + w on moved down by w, and y put for the last w
+module _ (w a : ℕ) (s : List ℕ) (fits : a + w ≤ length s) where
+  abbrev front : List ℕ
+  front = take a s ++ drop (a + w) s
 
-  last_length : length (mid_of (n - w) (n - (n - w)) ys) ≡ w
-  last_length =
-      let e : n - (n - w) ≡ w = omega arith in
-      let d : drop (n - w) ys ≡ last = ap (drop (n - w)) cut ∙ drop_at front last (n - w) fl in
-      ap (λ (r : List ℕ). length (take (n - (n - w)) r)) d ∙ ap length (take_all (n - (n - w)) last (omega arith)) ∙ ll
+  front_length : length front ≡ length s - w
+  front_length =
+      let t : length (take a s) ≡ a = length-take-le a s (omega arith) in
+      omega (arith, length-append (take a s) (drop (a + w) s), length-drop (a + w) s)
 
-module _ (w : ℕ) (s : List ℕ) (k : w ≤ length s) where
-  after_w : length (drop w s) ≡ length s - w
-  after_w = length-drop w s
+  cut : paste s a (drop (a + w) s) (length s - (a + w)) ≡ front ++ drop (length s - w) s
+  cut =
+      let e : a + (length s - (a + w)) ≡ length s - w = omega arith in
+      ap (λ (r : List ℕ). take a s ++ r ++ drop (a + (length s - (a + w))) s) (take_all (length s - (a + w)) (drop (a + w) s) (rw length-drop (omega arith)))
+      ∙ ap (λ (n : ℕ). front ++ drop n s) e
 
-  last_w : length (drop (length s - w) s) ≡ w
-  last_w = length-drop (length s - w) s ∙ (let e : length s - (length s - w) ≡ w = omega arith in e)
+  module _ (ys : List ℕ) (moved : ys ≡ paste s a (drop (a + w) s) (length s - (a + w))) where
+    last_length : length (mid_of (length s - w) (length s - (length s - w)) ys) ≡ w
+    last_length =
+        let d : drop (length s - w) ys ≡ drop (length s - w) s = ap (drop (length s - w)) (moved ∙ cut) ∙ drop_at front (drop (length s - w) s) (length s - w) front_length in
+        let l = length-drop (length s - w) s in
+        ap (λ (r : List ℕ). length (take (length s - (length s - w)) r)) d ∙ ap length (take_all (length s - (length s - w)) (drop (length s - w) s) (omega arith)) ∙ omega arith
 
-  pub push_is : (x ys : List ℕ) → ys ≡ drop w s ++ drop (length s - w) s → (y : List ℕ) → y ≡ x → put_mid (length s - w) (length s - (length s - w)) ys y ≡ pushed w x s
-  unfolding pushed
-  push_is x ys e y f = last_put w (length s) k (drop w s) (drop (length s - w) s) ys e after_w last_w y ∙ ap (λ (r : List ℕ). drop w s ++ r) f
+    last_put : (y : List ℕ) → put_mid (length s - w) (length s - (length s - w)) ys y ≡ front ++ y
+    last_put y =
+        let l = length-drop (length s - w) s in
+        ap (λ (r : List ℕ). put_mid (length s - w) (length s - (length s - w)) r y) (moved ∙ cut)
+        ∙ put_last front (drop (length s - w) s) (length s - w) (length s - (length s - w)) front_length (omega arith) y
 
-  -- ---- slot p is dropped
-  module _ (a : ℕ) (fits : a + w ≤ length s) where
-    mid_all : mid_of a (length s - a) s ≡ drop a s
-    mid_all = take_all (length s - a) (drop a s) (rw length-drop (omega arith))
+    module _ (len : length ys ≡ length s) where
+      pub moved_put : (y : List ℕ) → put_mid (length ys - w) (length ys - (length ys - w)) ys y ≡ take a s ++ (drop (a + w) s ++ y)
+      moved_put y = ap (λ (n : ℕ). put_mid (n - w) (n - (n - w)) ys y) len ∙ last_put y ∙ append_assoc (take a s) (drop (a + w) s) y
 
-    moved : (ys : List ℕ) → ys ≡ drop w (mid_of a (length s - a) s) ++ drop (length (mid_of a (length s - a) s) - w) (mid_of a (length s - a) s) → ys ≡ drop (a + w) s ++ drop (length s - w) s
-    moved ys e =
-        let l : length (drop a s) ≡ length s - a = length-drop a s in
-        let q : a + (length s - a - w) ≡ length s - w = omega arith in
-        e ∙ ap (λ (m : List ℕ). drop w m ++ drop (length m - w) m) mid_all
-        ∙ ap (λ (r : List ℕ). r ++ drop (length (drop a s) - w) (drop a s)) (drop-drop w a s)
-        ∙ ap (λ (n : ℕ). drop (a + w) s ++ drop (n - w) (drop a s)) l
-        ∙ ap (λ (r : List ℕ). drop (a + w) s ++ r) (drop-drop (length s - a - w) a s ∙ ap (λ (n : ℕ). drop n s) q)
+      pub moved_last : length (mid_of (length ys - w) (length ys - (length ys - w)) ys) ≡ w
+      moved_last = ap (λ (n : ℕ). length (mid_of (n - w) (n - (n - w)) ys)) len ∙ last_length
 
-    shifted_is : (ys : List ℕ) → ys ≡ drop (a + w) s ++ drop (length s - w) s → put_mid a (length s - a) s ys ≡ (take a s ++ drop (a + w) s) ++ drop (length s - w) s
-    shifted_is ys e =
-        let none : post_of a (length s - a) s ≡ [] = drop_of_length-le (drop a s) {i = length s - a} (rw length-drop (omega arith)) in
-        ap (λ (r : List ℕ). take a s ++ (ys ++ r)) none ∙ ap (λ (r : List ℕ). take a s ++ r) (append-nil ys ∙ e)
-        ∙ sym (append_assoc (take a s) (drop (a + w) s) (drop (length s - w) s))
-
-    front_is : length (take a s ++ drop (a + w) s) ≡ length s - w
-    front_is =
-        let t : length (take a s) ≡ a = length-take-le a s (omega arith) in
-        omega (arith, length-append (take a s) (drop (a + w) s), length-drop (a + w) s)
-
-    pub drop_is : (ys : List ℕ) → ys ≡ drop w (mid_of a (length s - a) s) ++ drop (length (mid_of a (length s - a) s) - w) (mid_of a (length s - a) s)
-        → (zs : List ℕ) → zs ≡ replicate (length (mid_of (length s - w) (length s - (length s - w)) (put_mid a (length s - a) s ys))) 0
-        → put_mid (length s - w) (length s - (length s - w)) (put_mid a (length s - a) s ys) zs ≡ take a s ++ (drop (a + w) s ++ replicate w 0)
-    drop_is ys e zs z =
-        let l = put_mid a (length s - a) s ys in
-        let cut = shifted_is ys (moved ys e) in
-        let n = last_length w (length s) k (take a s ++ drop (a + w) s) (drop (length s - w) s) l cut front_is last_w in
-        last_put w (length s) k (take a s ++ drop (a + w) s) (drop (length s - w) s) l cut front_is last_w zs
-        ∙ ap (λ (r : List ℕ). (take a s ++ drop (a + w) s) ++ r) (z ∙ ap (λ (m : ℕ). replicate m 0) n)
-        ∙ append_assoc (take a s) (drop (a + w) s) (replicate w 0)
+pub pushed_is : (w : ℕ) (s x : List ℕ) → drop w s ++ x ≡ pushed w x s
+unfolding pushed
+pushed_is w s x = refl
 
 pub dropped_is : (w p : ℕ) (s : List ℕ) → take (w * p) s ++ (drop (w * p + w) s ++ replicate w 0) ≡ dropped_slot w p s
 unfolding dropped_slot

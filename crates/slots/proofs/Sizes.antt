@@ -8,33 +8,32 @@ use native.Mathlib.Omega.{arith}
 use lib.ListN.{length, take, drop, replicate, length-append, length-replicate, length-drop}
 use lib.Seq.{length-take-le}
 use Rattle.slots.specs.Slots.{put_slot, dropped_slot, pushed, lowest, pick, later, has_job, is_empty, slot_for, or_else, at_slot, kept_in, forgot_in}
-use Rattle.slots.specs.declared.Slot.{Slot}
-use Rattle.slots.specs.declared.Slot.TheVariants.{At, Nowhere}
+use Rattle.std.specs.Prelude.{Option, Some, None}
 
-pub at_inj : (p q : ℕ) → At p ≡ At q → p ≡ q
+pub at_inj : (p q : ℕ) → Some p ≡ Some q → p ≡ q
 at_inj p q e = cc
 
-pub no_slot : (p : ℕ) → Nowhere ≡ At p → ⊥
+pub no_slot : (p : ℕ) → None ≡ Some p → ⊥
 no_slot p e = let z : ◌≡◌ {A = ℕ} 0 1 = cc in omega arith
 
-below : (c q : ℕ) (b : Bool) (o : Slot) → ((r : ℕ) → o ≡ At r → r < c) → pick b (At 0) (later o) ≡ At q → q < suc c
+below : (c q : ℕ) (b : Bool) (o : Option ℕ) → ((r : ℕ) → o ≡ Some r → r < c) → pick b (Some 0) (later o) ≡ Some q → q < suc c
 below c q true o k e = let z = at_inj 0 q e in omega arith
-below c q false (At r) k e = let z = at_inj (suc r) q e in let h = k r refl in omega arith
-below c q false Nowhere k e = absurd (no_slot q e)
+below c q false (Some r) k e = let z = at_inj (suc r) q e in let h = k r refl in omega arith
+below c q false None k e = absurd (no_slot q e)
 
 -- a slot that is found is one of the c
-pub found_below : (test : List ℕ → Bool) (w c : ℕ) (s : List ℕ) (p : ℕ) → lowest test w c s ≡ At p → p < c
+pub found_below : (test : List ℕ → Bool) (w c : ℕ) (s : List ℕ) (p : ℕ) → lowest test w c s ≡ Some p → p < c
 unfolding lowest
 found_below test w zero s p e = absurd (no_slot p e)
 found_below test w (suc c) s p e = below c p (test s) (lowest test w c (drop w s)) (found_below test w c (drop w s)) e
 
-pub for_below : (w c job : ℕ) (s : List ℕ) (p : ℕ) → slot_for w c job s ≡ At p → p < c
+pub for_below : (w c job : ℕ) (s : List ℕ) (p : ℕ) → slot_for w c job s ≡ Some p → p < c
 unfolding slot_for
 for_below w c job s p e = go (lowest (has_job job) w c s) refl e
   where
-    go : (o : Slot) → lowest (has_job job) w c s ≡ o → or_else o (lowest is_empty w c s) ≡ At p → p < c
-    go (At q) f g = found_below (has_job job) w c s p (f ∙ g)
-    go Nowhere f g = found_below is_empty w c s p g
+    go : (o : Option ℕ) → lowest (has_job job) w c s ≡ o → or_else o (lowest is_empty w c s) ≡ Some p → p < c
+    go (Some q) f g = found_below (has_job job) w c s p (f ∙ g)
+    go None f g = found_below is_empty w c s p g
 
 -- slot p ends within the span
 pub slot_within : (w c p : ℕ) → p < c → w * (p + 1) ≤ w * c
@@ -75,14 +74,14 @@ module _ (w c : ℕ) (s : List ℕ) (len : length s ≡ w * c) where
   unfolding kept_in
   kept_length job x h l = go (slot_for w c job s) refl
     where
-      go : (o : Slot) → slot_for w c job s ≡ o → length (at_slot o (λ p. put_slot w p x s) (pushed w x s)) ≡ w * c
-      go (At p) e = put_length p x (for_below w c job s p e) l
-      go Nowhere e = pushed_length x h l
+      go : (o : Option ℕ) → slot_for w c job s ≡ o → length (at_slot o (λ p. put_slot w p x s) (pushed w x s)) ≡ w * c
+      go (Some p) e = put_length p x (for_below w c job s p e) l
+      go None e = pushed_length x h l
 
   pub forgot_length : (job : ℕ) → length (forgot_in w c job s) ≡ w * c
   unfolding forgot_in
   forgot_length job = go (lowest (has_job job) w c s) refl
     where
-      go : (o : Slot) → lowest (has_job job) w c s ≡ o → length (at_slot o (λ p. dropped_slot w p s) s) ≡ w * c
-      go (At p) e = dropped_length p (found_below (has_job job) w c s p e)
-      go Nowhere e = len
+      go : (o : Option ℕ) → lowest (has_job job) w c s ≡ o → length (at_slot o (λ p. dropped_slot w p s) s) ≡ w * c
+      go (Some p) e = dropped_length p (found_below (has_job job) w c s p e)
+      go None e = len

@@ -8,8 +8,7 @@ use lib.ListN.{length, take, drop, replicate, length-append}
 use lib.Seq.{take-append-add, drop-append-add, drop_at}
 use mathlib.Core.Bool.{Bool, true, false, cond}
 use Rattle.slots.specs.Slots.{most_cells, values_end, head_of, padded, slot_of, put_slot, dropped_slot, lowest, pick, later, has_job, at_slot, forgot_in}
-use Rattle.slots.specs.declared.Slot.{Slot}
-use Rattle.slots.specs.declared.Slot.TheVariants.{At, Nowhere}
+use Rattle.std.specs.Prelude.{Option, Some, None}
 use Rattle.slots.proofs.Stored.{padded_length}
 
 -- a slot has w words
@@ -73,30 +72,30 @@ replaced_in w c job x s = at_slot (lowest (has_job job) w c s) (λ p. put_slot w
 
 -- ---- a search and a move on c + 1 slots, by those on the c after the first
 module _ (w : ℕ) (y rest : List ℕ) (len : length y ≡ w) (c : ℕ) where
-  pub lowest_step : (test : List ℕ → Bool) (b : Bool) → test (y ++ rest) ≡ b → lowest test w (suc c) (y ++ rest) ≡ pick b (At 0) (later (lowest test w c rest))
+  pub lowest_step : (test : List ℕ → Bool) (b : Bool) → test (y ++ rest) ≡ b → lowest test w (suc c) (y ++ rest) ≡ pick b (Some 0) (later (lowest test w c rest))
   unfolding lowest
   lowest_step test b e =
-      ap {B = Slot} (λ (o : Bool). pick o (At 0) (later (lowest test w c (drop w (y ++ rest))))) e
-      ∙ ap {B = Slot} (λ (l : List ℕ). pick b (At 0) (later (lowest test w c l))) (drop_first w y rest len)
+      ap {B = Option ℕ} (λ (o : Bool). pick o (Some 0) (later (lowest test w c (drop w (y ++ rest))))) e
+      ∙ ap {B = Option ℕ} (λ (l : List ℕ). pick b (Some 0) (later (lowest test w c l))) (drop_first w y rest len)
 
   module _ (job : ℕ) (b : Bool) (e : has_job job (y ++ rest) ≡ b) where
-    pub by_slot : {A : Type 0} (f : ℕ → A) (d : A) → at_slot (lowest (has_job job) w (suc c) (y ++ rest)) f d ≡ at_slot (pick b (At 0) (later (lowest (has_job job) w c rest))) f d
-    by_slot {A} f d = ap {B = A} (λ (o : Slot). at_slot o f d) (lowest_step (has_job job) b e)
+    pub by_slot : {A : Type 0} (f : ℕ → A) (d : A) → at_slot (lowest (has_job job) w (suc c) (y ++ rest)) f d ≡ at_slot (pick b (Some 0) (later (lowest (has_job job) w c rest))) f d
+    by_slot {A} f d = ap {B = A} (λ (o : Option ℕ). at_slot o f d) (lowest_step (has_job job) b e)
 
     pub forgot_step : forgot_in w (suc c) job (y ++ rest) ≡ cond b (rest ++ replicate w 0) (y ++ forgot_in w c job rest)
     unfolding forgot_in
     forgot_step = by_slot (λ p. dropped_slot w p (y ++ rest)) (y ++ rest) ∙ go b (lowest (has_job job) w c rest)
       where
-        go : (b : Bool) (o : Slot) → at_slot (pick b (At 0) (later o)) (λ p. dropped_slot w p (y ++ rest)) (y ++ rest) ≡ cond b (rest ++ replicate w 0) (y ++ at_slot o (λ p. dropped_slot w p rest) rest)
+        go : (b : Bool) (o : Option ℕ) → at_slot (pick b (Some 0) (later o)) (λ p. dropped_slot w p (y ++ rest)) (y ++ rest) ≡ cond b (rest ++ replicate w 0) (y ++ at_slot o (λ p. dropped_slot w p rest) rest)
         go true o = dropped_first w y rest len
-        go false (At p) = dropped_next w y rest len p
-        go false Nowhere = refl
+        go false (Some p) = dropped_next w y rest len p
+        go false None = refl
 
     pub replaced_step : (x : List ℕ) → replaced_in w (suc c) job x (y ++ rest) ≡ cond b (x ++ rest) (y ++ replaced_in w c job x rest)
     unfolding replaced_in
     replaced_step x = by_slot (λ p. put_slot w p x (y ++ rest)) (y ++ rest) ∙ go b (lowest (has_job job) w c rest)
       where
-        go : (b : Bool) (o : Slot) → at_slot (pick b (At 0) (later o)) (λ p. put_slot w p x (y ++ rest)) (y ++ rest) ≡ cond b (x ++ rest) (y ++ at_slot o (λ p. put_slot w p x rest) rest)
+        go : (b : Bool) (o : Option ℕ) → at_slot (pick b (Some 0) (later o)) (λ p. put_slot w p x (y ++ rest)) (y ++ rest) ≡ cond b (x ++ rest) (y ++ at_slot o (λ p. put_slot w p x rest) rest)
         go true o = put_first w y rest len x
-        go false (At p) = put_next w y rest len p x
-        go false Nowhere = refl
+        go false (Some p) = put_next w y rest len p x
+        go false None = refl

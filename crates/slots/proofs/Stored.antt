@@ -4,7 +4,7 @@ use mathlib.Core.List.{List, [], ◌++◌, append-nil, append_assoc}
 use Prim.Native.Nat.{ℕ, ◌+◌, ◌-◌, ◌≤◌}
 use native.Mathlib.Omega.{arith}
 use lib.ListN.{length, take, drop, replicate, length-drop, length-append, length-replicate, drop_of_length-le}
-use lib.Seq.{length-take-le, take_all, take_at, drop_at, sets, sets-eq}
+use lib.Seq.{length-take-le, take_all, take_at, drop_at}
 use borrow.Rule.Slice.PartMut.{put_mid, mid_of, post_of}
 use Rattle.slots.specs.Slots.{head_size, most_cells, values_end, head_of, padded, slot_of}
 
@@ -26,22 +26,7 @@ put_last {A} a rest i k e h y = put_next a rest i e k y ∙ ap (λ (r : List A).
 pub mid_last : {A : Type 0} (a rest : List A) (i k : ℕ) → length a ≡ i → length rest ≤ k → mid_of i k (a ++ rest) ≡ rest
 mid_last a rest i k e h = mid_next a rest i e k ∙ take_all k rest h
 
--- ---- stores over all of a list
-pub stored_all : (l h : List ℕ) → length l ≡ length h → sets l 0 h ≡ h
-stored_all l h e =
-    sets-eq h l 0 (omega arith) ∙ ap (λ (r : List ℕ). h ++ r) (drop_of_length-le l {i = 0 + length h} (omega arith)) ∙ append-nil h
-
--- ---- words over the front of a part, and zeros after them
-pub padded_is : (p v b zs : List ℕ) (k : ℕ) → length v ≤ length p → k ≡ length p → b ≡ v ++ drop (length v) p → zs ≡ replicate (length (mid_of (length v) (k - length v) b)) 0
-    → put_mid (length v) (k - length v) b zs ≡ padded (length p) v
-padded_is p v b zs k h ek e z =
-    let n = length v in
-    let rest = drop n p in
-    let r : length rest ≡ k - n = length-drop n p ∙ ap (λ (m : ℕ). m - n) (sym ek) in
-    let m : length (mid_of n (k - n) b) ≡ length p - n = ap (λ (x : List ℕ). length (mid_of n (k - n) x)) e ∙ ap length (mid_last v rest n (k - n) refl (omega arith)) ∙ length-drop n p in
-    ap (λ (x : List ℕ). put_mid n (k - n) x zs) e ∙ put_last v rest n (k - n) refl (omega arith) zs
-    ∙ ap (λ (x : List ℕ). v ++ x) (z ∙ ap (λ (x : ℕ). replicate x 0) m)
-
+-- ---- words, and zeros after them
 pub padded_length : (k : ℕ) (v : List ℕ) → length v ≤ k → length (padded k v) ≡ k
 padded_length k v h = length-append v (replicate (k - length v) 0) ∙ ap (λ (n : ℕ). length v + n) (length-replicate (k - length v) 0) ∙ omega arith
 

@@ -1,7 +1,5 @@
 -- A society's span (document 01, "The shelf", with W-203's slots): c slots of w words each, and what is done to them. From any words.
-use Rattle.std.specs.Prelude.{ℕ, zero, suc, ◌+◌, ◌-◌, ◌*◌, ◌/◌, ◌%◌, Bool, true, false, not, ◌&&◌, List, [], ◌∷◌, ◌++◌, eqb, leb, length, take, drop, get_or, replicate}
-use Rattle.slots.specs.declared.Slot.{Slot}
-use Rattle.slots.specs.declared.Slot.TheVariants.{At, Nowhere}
+use Rattle.std.specs.Prelude.{ℕ, zero, suc, ◌+◌, ◌-◌, ◌*◌, ◌/◌, ◌%◌, Bool, true, false, not, ◌&&◌, Option, Some, None, List, [], ◌∷◌, ◌++◌, eqb, leb, length, take, drop, get_or, replicate}
 
 -- ---- a slot's words
 -- a number of 64 bits as its low and high word
@@ -56,23 +54,23 @@ unfolding is_full
 has_job job x = is_full x && eqb (get_or x 1 0) job
 
 -- ---- the lowest slot that passes a test
-abbrev pub pick : Bool → Slot → Slot → Slot
+abbrev pub pick : Bool → Option ℕ → Option ℕ → Option ℕ
 pick true a b = a
 pick false a b = b
 
 -- one slot further on
-abbrev pub later : Slot → Slot
-later (At p) = At (suc p)
-later Nowhere = Nowhere
+abbrev pub later : Option ℕ → Option ℕ
+later (Some p) = Some (suc p)
+later None = None
 
-unfoldable pub lowest : (List ℕ → Bool) → ℕ → ℕ → List ℕ → Slot
-lowest test w zero s = Nowhere
-lowest test w (suc c) s = pick (test s) (At 0) (later (lowest test w c (drop w s)))
+unfoldable pub lowest : (List ℕ → Bool) → ℕ → ℕ → List ℕ → Option ℕ
+lowest test w zero s = None
+lowest test w (suc c) s = pick (test s) (Some 0) (later (lowest test w c (drop w s)))
 
 -- f of the slot that was found, or else d
-abbrev pub at_slot : {A : Type 0} → Slot → (ℕ → A) → A → A
-at_slot (At p) f d = f p
-at_slot Nowhere f d = d
+abbrev pub at_slot : {A : Type 0} → Option ℕ → (ℕ → A) → A → A
+at_slot (Some p) f d = f p
+at_slot None f d = d
 
 -- ---- the moves
 -- slot p becomes x
@@ -88,11 +86,11 @@ unfoldable pub pushed : ℕ → List ℕ → List ℕ → List ℕ
 pushed w x s = drop w s ++ x
 
 -- where a table of that job goes: where the job is, else the lowest empty slot
-abbrev pub or_else : Slot → Slot → Slot
-or_else (At p) r = At p
-or_else Nowhere r = r
+abbrev pub or_else : Option ℕ → Option ℕ → Option ℕ
+or_else (Some p) r = Some p
+or_else None r = r
 
-unfoldable pub slot_for : ℕ → ℕ → ℕ → List ℕ → Slot
+unfoldable pub slot_for : ℕ → ℕ → ℕ → List ℕ → Option ℕ
 slot_for w c job s = or_else (lowest (has_job job) w c s) (lowest is_empty w c s)
 
 -- ---- a span after a keep and after a forget

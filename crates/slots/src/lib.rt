@@ -4,7 +4,6 @@
 pub mod moves;
 pub mod search;
 mod table;
-pub mod words;
 
 // The words of a slot, of its head, and of head and values; the most values of a table.
 pub const SLOT_WORDS: usize = 287;
@@ -14,10 +13,3 @@ pub const HEAD: usize = 7;
 pub const VALUES_END: usize = 127;
 
 const CELLS: u32 = 120;
-
-// The lowest slot that a search found.
-#[derive(Clone, Copy)]
-pub enum Slot {
-    At(usize),
-    Nowhere,
-}

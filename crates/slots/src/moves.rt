@@ -4,7 +4,6 @@ ghost use Rattle.slots.specs.Slots.{most_cells, most_links, slot_words, slot_of,
 
 use crate::SLOT_WORDS;
 use crate::table::put_table;
-use crate::words::{shift_down, zero_words};
 
 // Slot p becomes the table.
 pub fn put_at(
@@ -20,8 +19,8 @@ pub fn put_at(
     ensures { span.new ≡ put_slot slot_words p (slot_of slot_words job loss gap values.now multipliers.now) span.old }
 {
     let at = SLOT_WORDS * p;
-    let e = at + SLOT_WORDS;
-    put_table(&mut span[at..e], job, loss, gap, values, multipliers);
+    let end = at + SLOT_WORDS;
+    put_table(&mut span[at..end], job, loss, gap, values, multipliers);
 }
 
 // Every slot moves down by one, and the table is the last.
@@ -29,10 +28,9 @@ pub fn push(span: &mut [u32], job: u32, loss: u64, gap: u64, values: &[u32], mul
     requires { (slot_words ≤ length span.old) × (length values.now ≤ most_cells) × (length multipliers.now ≤ most_links) }
     ensures { span.new ≡ pushed slot_words (slot_of slot_words job loss gap values.now multipliers.now) span.old }
 {
-    let e = span.len();
-    shift_down(span, SLOT_WORDS);
-    let at = e - SLOT_WORDS;
-    put_table(&mut span[at..e], job, loss, gap, values, multipliers);
+    span.copy_within(SLOT_WORDS.., 0);
+    let last = span.len() - SLOT_WORDS;
+    put_table(&mut span[last..], job, loss, gap, values, multipliers);
 }
 
 // The slots after p move down by one, and the last becomes zeros.
@@ -41,8 +39,7 @@ pub fn drop_slot(span: &mut [u32], p: usize)
     ensures { span.new ≡ dropped_slot slot_words p span.old }
 {
     let at = SLOT_WORDS * p;
-    let e = span.len();
-    shift_down(&mut span[at..e], SLOT_WORDS);
-    let last = e - SLOT_WORDS;
-    zero_words(&mut span[last..e]);
+    span.copy_within(at + SLOT_WORDS.., at);
+    let last = span.len() - SLOT_WORDS;
+    span[last..].fill(0);
 }

@@ -1,5 +1,6 @@
 -- The counts over the front, and zeros after them as far as their spans go.
-use mathlib.Core.Path.{refl}
+use mathlib.Core.Path.{refl, ap}
+use borrow.Rule.Slice.PartMut.{put_mid}
 use Prim.Native.Nat.{◌+◌, ◌*◌}
 use native.Mathlib.Omega.{arith}
 use Rattle.counts.specs.Counts.{societies}
@@ -17,13 +18,13 @@ overflow_mul-e c = omega (arith, c.slots_below-slots.ensures, (right_allotted c.
 pub overflow_add-e : goal.overflow_add-e
 overflow_add-e c = omega (arith, c.slots_below-slots.ensures, (right_allotted c.args.counts.now c.requires.2).total)
 
-pub slice_bounds-zero_words-end : goal.slice_bounds-zero_words-end
-slice_bounds-zero_words-end c = omega (arith, c.slots_below-slots.ensures, (right_allotted c.args.counts.now c.requires.2).total, c.copy_words.auto.dst, c.requires.0)
+pub slice_bounds-fill-end : goal.slice_bounds-fill-end
+slice_bounds-fill-end c = omega (arith, c.slots_below-slots.ensures, (right_allotted c.args.counts.now c.requires.2).total, c.requires.0)
 
 pub returns : goal.returns
 returns c = let row = c.args.counts.now in
     let slots = c.slots_below-slots in
-    let copy = c.copy_words in
-    let zero = c.zero_words in
-    cleared_is row c.args.shelf.now copy.new.dst zero.new.s slots.result (societies + slot_words * slots.result) c.requires.1 c.requires.0
-    (right_allotted row c.requires.2).total slots.ensures refl copy.ensures zero.ensures
+    let copy = c.copy_from_slice in
+    let zero = c.fill in
+    cleared_is row c.args.shelf.now (put_mid 0 societies c.args.shelf.now copy.new.self) zero.new.self slots.result (societies + slot_words * slots.result) c.requires.1 c.requires.0
+    (right_allotted row c.requires.2).total slots.ensures refl (ap (put_mid 0 societies c.args.shelf.now) copy.ensures.after) (zero.ensures.after (λ y e. e))

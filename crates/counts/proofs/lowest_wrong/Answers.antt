@@ -1,34 +1,16 @@
-use mathlib.Core.Path.{◌≡◌, sym, ap, ◌∙◌}
-use Prim.Native.Nat.{ℕ, ◌-◌, ◌*◌}
-use native.Mathlib.Omega.{arith}
-use lib.ListN.{drop}
-use Rattle.slots.proofs.Lowest.{left_start, left_found, left_next, left_end}
-use Rattle.counts.specs.Counts.{societies, is_wrong}
+-- A count is one word, and its test goes by that word.
+use Rattle.std.proofs.Common.{ℕ, [], ◌∷◌, Option, ap, ◌∙◌, rules, tests}
+use Rattle.std.proofs.lemmas.Iterator.{YieldsList-from_slice}
+use Rattle.std.proofs.lemmas.Iterator.Search.{position_from_yields_List}
+use Rattle.slots.specs.Slots.{lowest}
+use Rattle.slots.proofs.Lowest.{first_word_is}
+use Rattle.counts.specs.Counts.{is_wrong}
+use Rattle.counts.proofs.Tests.{wrong_alone}
 use Rattle.counts.proofs.lowest_wrong.Goals as goal
 
-pub loop-s-init : goal.loop-s-init
-loop-s-init c = (omega arith, left_start is_wrong 1 societies c.args.row.now)
-
-pub wrong_at-requires : goal.wrong_at-requires
-wrong_at-requires c = omega (arith, c.requires)
-
-pub returns-then-wrong_at : goal.returns-then-wrong_at
-returns-then-wrong_at c = let row = c.args.row.now in
-    let s = c.loop-s.s in
-    let e : 1 * s ≡ s = omega arith in
-    sym (left_found is_wrong 1 societies row s (omega arith) (ap (λ (k : ℕ). is_wrong (drop k row)) e ∙ sym c.wrong_at.ensures ∙ c.if-wrong_at.true)) ∙ c.loop-s.invariant.1
-
-pub overflow_add-s : goal.overflow_add-s
-overflow_add-s c = omega arith
-
-pub loop-s-smaller : goal.loop-s-smaller
-loop-s-smaller c = omega arith
-
-pub loop-s-preserved : goal.loop-s-preserved
-loop-s-preserved c = let row = c.args.row.now in
-    let s = c.loop-s.s in
-    let e : 1 * s ≡ s = omega arith in
-    (omega arith, left_next is_wrong 1 societies row s (omega arith) (ap (λ (k : ℕ). is_wrong (drop k row)) e ∙ sym c.wrong_at.ensures ∙ c.if-wrong_at.false) ∙ c.loop-s.invariant.1)
-
 pub returns : goal.returns
-returns c = sym (left_end is_wrong 1 societies c.args.row.now c.loop-s.s (omega arith)) ∙ c.loop-s.invariant.1
+returns c =
+    let row = c.args.row.now in
+    first_word_is is_wrong wrong_alone row c.position.result
+    (position_from_yields_List (λ x. is_wrong (x ∷ [])) _ _ _ c.position.ensures.ran (YieldsList-from_slice row (cc)) (λ x b q k. search (rules, tests)))
+    ∙ ap {B = Option ℕ} (λ (n : ℕ). lowest is_wrong 1 n row) c.requires

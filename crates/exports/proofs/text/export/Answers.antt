@@ -4,11 +4,11 @@ use mathlib.Core.Path.{refl, sym, ◌∙◌}
 use Rattle.exports.proofs.Texts.{out_of}
 use Rattle.exports.proofs.text.export.Goals as goal
 
-pub export_lines-requires : goal.export_lines-requires
-export_lines-requires c = let o = out_of c.args.first c.args.rates.now (sym c.is_exportable.ensures ∙ c.if-is_exportable.true) in (omega (arith, o.old), o.few)
+pub returns-then-not-is_exportable : goal.returns-then-not-is_exportable
+returns-then-not-is_exportable c = rw (sym c.is_exportable.ensures ∙ c.if-not-is_exportable.true) (refl, refl)
 
-pub returns-then-is_exportable : goal.returns-then-is_exportable
-returns-then-is_exportable c = rw (sym c.is_exportable.ensures ∙ c.if-is_exportable.true) c.export_lines.ensures
+pub export_lines-requires : goal.export_lines-requires
+export_lines-requires c = let o = out_of c.args.first c.args.rates.now (sym c.is_exportable.ensures ∙ c.if-not-is_exportable.false) in (omega (arith, o.old), o.few)
 
 pub returns : goal.returns
-returns c = rw (sym c.is_exportable.ensures ∙ c.if-is_exportable.false) (refl, refl)
+returns c = rw (sym c.is_exportable.ensures ∙ c.if-not-is_exportable.false) c.export_lines.ensures

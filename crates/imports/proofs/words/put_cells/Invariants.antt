@@ -1,13 +1,9 @@
 -- After i turns the words of the first i cells stand there.
-use Prim.Native.Nat.{◌-◌, ◌≤◌}
 use lib.Seq.{sets}
 use mathlib.Core.Path.{◌≡◌}
-use lib.ListN.{length, take}
+use lib.ListN.{take}
 use Rattle.imports.specs.Imports.{cells_of}
 use Rattle.imports.proofs.words.put_cells.Given as goal
 
 abbrev pub invariant-loop-i : goal.invariant-loop-i
-invariant-loop-i l = (l.i ≤ l.n) × ((length l.words ≡ length l.initial.words) × (l.words ≡ sets l.initial.words 6 (cells_of l.g (take l.i l.exposures) (take l.i l.deaths))))
-
-abbrev pub decreases-loop-i : goal.decreases-loop-i
-decreases-loop-i l = l.n - l.i
+invariant-loop-i l = l.words ≡ sets l.initial.words 6 (cells_of l.g (take l.i l.exposures) (take l.i l.deaths))

@@ -8,15 +8,15 @@ use Rattle.shelf.proofs.span.keep_in.Goals as goal
 
 pub put_at-requires : goal.put_at-requires
 put_at-requires c = let a = c.args in
-    let below = for_below slot_words a.count a.job a.span.now c.in-At.p (sym c.slot_for-found.ensures ∙ c.in-At.is) in
+    let below = for_below slot_words a.count a.job a.span.now c.in-Some.p (sym c.slot_for.ensures ∙ c.in-Some.is) in
     (omega arith, c.requires.2, c.requires.3)
 
-pub returns-in-At : goal.returns-in-At
-returns-in-At c = let a = c.args in
+pub returns-in-Some : goal.returns-in-Some
+returns-in-Some c = let a = c.args in
     c.put_at.ensures
-    ∙ kept_at slot_words a.count a.job a.span.now (slot_of slot_words a.job a.loss a.gap a.values.now a.multipliers.now) c.in-At.p (sym c.slot_for-found.ensures ∙ c.in-At.is)
+    ∙ kept_at slot_words a.count a.job a.span.now (slot_of slot_words a.job a.loss a.gap a.values.now a.multipliers.now) c.in-Some.p (sym c.slot_for.ensures ∙ c.in-Some.is)
 
-pub returns-in-Nowhere : goal.returns-in-Nowhere
-returns-in-Nowhere c = let a = c.args in
+pub returns-in-None : goal.returns-in-None
+returns-in-None c = let a = c.args in
     c.push.ensures
-    ∙ kept_none slot_words a.count a.job a.span.now (slot_of slot_words a.job a.loss a.gap a.values.now a.multipliers.now) (sym c.slot_for-found.ensures ∙ c.in-Nowhere.is)
+    ∙ kept_none slot_words a.count a.job a.span.now (slot_of slot_words a.job a.loss a.gap a.values.now a.multipliers.now) (sym c.slot_for.ensures ∙ c.in-None.is)

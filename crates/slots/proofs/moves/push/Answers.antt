@@ -1,10 +1,12 @@
--- The last slot's words stayed as they were, and the table is put there.
+-- Every slot moves down by one, and the table is put for the last.
+use Rattle.std.proofs.Common.{ℕ, ap, ◌∙◌, ◌++◌, List, drop}
 use Rattle.slots.specs.Slots.{slot_words, slot_of}
-use Rattle.slots.proofs.Placed.{push_is}
+use Rattle.slots.proofs.Placed.{moved_put, pushed_is}
 use Rattle.slots.proofs.moves.push.Goals as goal
 
 pub returns : goal.returns
-returns c = let put = c.put_table in
-    let shift = c.shift_down in
+returns c =
     let a = c.args in
-    push_is slot_words a.span.now c.requires.0 (slot_of slot_words a.job a.loss a.gap a.values.now a.multipliers.now) shift.new.s shift.ensures put.new.slot put.ensures
+    let s = a.span.now in
+    moved_put slot_words 0 s c.requires.0 c.copy_within.new.self c.copy_within.ensures.after c.copy_within.ensures.len c.put_table.new.slot
+    ∙ ap (λ (x : List ℕ). drop slot_words s ++ x) c.put_table.ensures ∙ pushed_is slot_words s (slot_of slot_words a.job a.loss a.gap a.values.now a.multipliers.now)

@@ -1,37 +1,15 @@
-use mathlib.Core.Path.{sym, ◌∙◌}
-use Prim.Native.Nat.{◌-◌, ◌*◌}
-use native.Mathlib.Omega.{arith}
-use borrow.Author.Rules.{rules}
-use borrow.Author.Tests.{not-true, not-false}
+-- The first slot that passes is the lowest.
+use Rattle.std.proofs.Common.{rules, arith, ◌≡◌, ◌*◌, ℕ, List, Bor, drop, refl, tests, ap}
+use Rattle.std.proofs.lemmas.Iterator.{YieldsList-from_range}
+use Rattle.std.proofs.lemmas.Iterator.Search.{position_from_yields_List}
 use Rattle.slots.specs.Slots.{slot_words, is_empty}
-use Rattle.slots.proofs.Lowest.{left_start, left_found, left_next, left_end, empty_full, empty_empty}
+use Rattle.slots.proofs.Lowest.{first_is}
 use Rattle.slots.proofs.search.find_empty.Goals as goal
 
-pub loop-p-init : goal.loop-p-init
-loop-p-init c = let a = c.args in (search rules, left_start is_empty slot_words a.count a.span.now)
-
-pub overflow_mul-at : goal.overflow_mul-at
-overflow_mul-at c = omega arith
-
-pub full_at-requires : goal.full_at-requires
-full_at-requires c = omega arith
-
-pub returns-then-not-full_at : goal.returns-then-not-full_at
-returns-then-not-full_at c = let a = c.args in
-    let p = c.loop-p.p in
-    sym (left_found is_empty slot_words a.count a.span.now p (omega arith) (empty_empty a.span.now (slot_words * p) (sym c.full_at.ensures ∙ not-true c.full_at.result c.if-not-full_at.true-raw))) ∙ c.loop-p.invariant.1
-
-pub overflow_add-p : goal.overflow_add-p
-overflow_add-p c = omega arith
-
-pub loop-p-smaller : goal.loop-p-smaller
-loop-p-smaller c = omega arith
-
-pub loop-p-preserved : goal.loop-p-preserved
-loop-p-preserved c = let a = c.args in
-    let p = c.loop-p.p in
-    (omega arith, left_next is_empty slot_words a.count a.span.now p (omega arith) (empty_full a.span.now (slot_words * p) (sym c.full_at.ensures ∙ not-false c.full_at.result c.if-not-full_at.false-raw)) ∙ c.loop-p.invariant.1)
-
 pub returns : goal.returns
-returns c = let a = c.args in
-    sym (left_end is_empty slot_words a.count a.span.now c.loop-p.p (omega arith)) ∙ c.loop-p.invariant.1
+unfolding is_empty
+returns c =
+    let s = c.args.span.now in
+    let n = c.args.count in
+    first_is is_empty slot_words s n c.position.result
+    (position_from_yields_List (λ p. is_empty (drop (slot_words * p) s)) _ _ _ c.position.ensures.ran (YieldsList-from_range 0 n n refl (omega arith)) (λ x b q k. (let e : q.0 ≡ c.args.span = search (rules, tests) in ap {B = record { 0 : Bor (List ℕ) }} (λ (z : Bor (List ℕ)). record { 0 = z }) e, search (rules, tests))))

@@ -1,9 +1,9 @@
--- The two tests of the first word, in order.
-use Rattle.slots.proofs.Lowest.{full_low, full_rest}
+use Rattle.std.proofs.Common.{arith, ◌*◌}
+use Rattle.std.proofs.lemmas.Grind.{common_steps}
+use Rattle.std.proofs.lemmas.Bool.Decides.{nat_tests}
+use Rattle.slots.specs.Slots.{slot_words}
+use Rattle.slots.proofs.Lowest.{full_is}
 use Rattle.slots.proofs.search.full_at.Goals as goal
 
-pub returns-then-n-lt2 : goal.returns-then-n-lt2
-returns-then-n-lt2 c = let a = c.args in full_low a.span.now a.at c.if-n-lt2.true
-
 pub returns : goal.returns
-returns c = let a = c.args in full_rest a.span.now a.at c.if-n-lt2.false
+returns c = let e = full_is c.args.span.now (slot_words * c.args.p) in grind (arith, common_steps, nat_tests)

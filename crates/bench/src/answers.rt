@@ -33,42 +33,36 @@ pub fn give(answer: &mut [u64], a: Answer) -> u64
     wrapping_add_u64(far, a.number)
 }
 
-// The answer for a verdict of the check.
+// The answer for a verdict of the check: an accepted table's loss and gap stand in it.
 pub fn of_verdict(verdict: Verdict) -> Answer
     ensures { result ≡ answer_of verdict }
 {
-    match verdict {
-        Ok(figures) => Answer {
-            number: 0,
-            place: 0,
+    verdict.map_or_else(
+        refused,
+        |figures| Answer {
             loss: size_of(figures.loss),
             gap: size_of(figures.gap),
+            ..plain(0, 0)
         },
-        Err(r) => refused(r),
-    }
+    )
 }
 
 // The answer for how reading or writing a pack ends.
 pub fn of_outcome(outcome: Result<usize, Refusal>) -> Answer
     ensures { result ≡ outcome_of outcome }
 {
-    match outcome {
-        Ok(n) => plain(0, n as u64),
-        Err(r) => refused(r),
-    }
+    outcome.map_or_else(refused, |n| plain(0, n as u64))
 }
 
 // The answer for a proposal that honours links: the count of passes stands in F.
 pub fn of_offer(offer: Result<Offer, Refusal>) -> Answer
     ensures { result ≡ offer_of offer }
 {
-    match offer {
-        Ok(made) => Answer {
-            number: 0,
-            place: made.bytes as u64,
+    offer.map_or_else(
+        refused,
+        |made| Answer {
             loss: made.passes,
-            gap: 0,
+            ..plain(0, made.bytes as u64)
         },
-        Err(r) => refused(r),
-    }
+    )
 }

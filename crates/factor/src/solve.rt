@@ -1,10 +1,23 @@
 // The solve with a whole factor: forward, division, backward, each in the place of what it was made of.
 ghost use Rattle.std.specs.Prelude.{◌≡◌, ◌+◌, ◌-◌, ◌≤◌, ◌<◌, length};
 ghost use Rattle.factor.specs.Factor.{less_by};
-ghost use Rattle.factor.specs.Places.{Placed};
+ghost use Rattle.factor.specs.Places.{Placed, Placed-prop};
 ghost use Rattle.factor.specs.Solve.{highest, lower_term, upper_term, forward_from, divided_from, backward_from, solution_of, solved_by};
 
 use crate::{CELLS, STARTS, Thin, lowest_of, start_at};
+
+// A factor: the pivots of its cells, and the multipliers of all rows, row after row from their starts on. Its reach is how wide the band is.
+#[derive(Clone, Copy)]
+pub struct Factor<'a> {
+    pub pivots: &'a [f64; CELLS],
+    pub multipliers: &'a [f64],
+    pub starts: &'a [u16; STARTS],
+    pub cells: usize,
+    pub reach: usize,
+    pub ghost cells_few: { cells ≤ 120 },
+    pub ghost reach_few: { reach ≤ 120 },
+    pub ghost placed: { Placed reach cells starts.now multipliers.now } by { Placed-prop reach cells starts.now multipliers.now },
+}
 
 // min(n - 1, j + z)
 fn highest_of(j: usize, z: usize, n: usize) -> usize
@@ -50,76 +63,58 @@ fn less_upper(
     rest
 }
 
-// y, in place of the right side.
-fn forward(l: &[f64], starts: &[u16; STARTS], y: &mut [f64; CELLS], n: usize, z: usize)
-    requires { (n ≤ 120) × Placed z n starts.now l.now }
-    ensures { y.new ≡ forward_from l.now z n 0 y.old }
-{
-    for j in 0..n {
-        let lo = lowest_of(j, z);
-        let at = start_at(starts, j);
-        let next = j + 1;
-        let end = start_at(starts, next);
-        let x = y[j];
-        let rest = less_lower(&l[at..end], y, x, j, lo);
-        y[j] = rest;
+impl<'a> Factor<'a> {
+    // y, in place of the right side.
+    fn forward(self, y: &mut [f64; CELLS])
+        ensures { y.new ≡ forward_from self.entry.multipliers.now self.entry.reach self.entry.cells 0 y.old }
+    {
+        for j in 0..self.cells {
+            let lo = lowest_of(j, self.reach);
+            let at = start_at(self.starts, j);
+            let next = j + 1;
+            let end = start_at(self.starts, next);
+            let x = y[j];
+            let rest = less_lower(&self.multipliers[at..end], y, x, j, lo);
+            y[j] = rest;
+        }
     }
-}
 
-// t, in place of y.
-fn divide(d: &[f64; CELLS], y: &mut [f64; CELLS], n: usize)
-    requires { n ≤ 120 }
-    ensures { y.new ≡ divided_from d.now n 0 y.old }
-{
-    for j in 0..n {
-        y[j] = y[j] / d[j];
+    // t, in place of y.
+    fn divide(self, y: &mut [f64; CELLS])
+        ensures { y.new ≡ divided_from self.entry.pivots.now self.entry.cells 0 y.old }
+    {
+        for j in 0..self.cells {
+            y[j] = y[j] / self.pivots[j];
+        }
     }
-}
 
-// v, in place of t, for j falling.
-fn backward(l: &[f64], starts: &[u16; STARTS], v: &mut [f64; CELLS], n: usize, z: usize)
-    requires { (n ≤ 120) × (z ≤ 120) × Placed z n starts.now l.now }
-    ensures { v.new ≡ backward_from l.now z n n v.old }
-{
-    for j in (0..n).rev() {
-        let top = highest_of(j, z, n);
-        let x = v[j];
-        let rest = less_upper(l, starts, z, v, x, j, top);
-        v[j] = rest;
+    // v, in place of t, for j falling.
+    fn backward(self, v: &mut [f64; CELLS])
+        ensures { v.new ≡ backward_from self.entry.multipliers.now self.entry.reach self.entry.cells self.entry.cells v.old }
+    {
+        for j in (0..self.cells).rev() {
+            let top = highest_of(j, self.reach, self.cells);
+            let x = v[j];
+            let rest = less_upper(self.multipliers, self.starts, self.reach, v, x, j, top);
+            v[j] = rest;
+        }
     }
-}
 
-// The values before rounding, in place of the right side.
-pub fn solve(
-    d: &[f64; CELLS],
-    l: &[f64],
-    starts: &[u16; STARTS],
-    v: &mut [f64; CELLS],
-    n: usize,
-    z: usize,
-)
-    requires { (n ≤ 120) × (z ≤ 120) × Placed z n starts.now l.now }
-    ensures { v.new ≡ solution_of d.now l.now z n v.old }
-{
-    forward(l, starts, v, n, z);
-    divide(d, v, n);
-    backward(l, starts, v, n, z);
-}
+    // The values before rounding, in place of the right side.
+    pub fn solve(self, v: &mut [f64; CELLS])
+        ensures { v.new ≡ solution_of self.entry.pivots.now self.entry.multipliers.now self.entry.reach self.entry.cells v.old }
+    {
+        self.forward(v);
+        self.divide(v);
+        self.backward(v);
+    }
 
-// The same where the factor is whole; where it is thin, nothing is done. The ending is handed back.
-pub fn solve_whole(
-    ending: Result<(), Thin>,
-    d: &[f64; CELLS],
-    l: &[f64],
-    starts: &[u16; STARTS],
-    v: &mut [f64; CELLS],
-    n: usize,
-    z: usize,
-) -> Result<(), Thin>
-    requires { (n ≤ 120) × (z ≤ 120) × Placed z n starts.now l.now }
-    ensures { (result ≡ ending) × (v.new ≡ solved_by z n v.old d.now l.now ending) }
-{
-    ending?;
-    solve(d, l, starts, v, n, z);
-    Ok(())
+    // The same where the factor is whole; where it is thin, nothing is done. The ending is handed back.
+    pub fn solve_whole(self, ending: Result<(), Thin>, v: &mut [f64; CELLS]) -> Result<(), Thin>
+        ensures { (result ≡ ending) × (v.new ≡ solved_by self.entry.reach self.entry.cells v.old self.entry.pivots.now self.entry.multipliers.now ending) }
+    {
+        ending?;
+        self.solve(v);
+        Ok(())
+    }
 }

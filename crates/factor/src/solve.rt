@@ -1,23 +1,9 @@
 // The solve with a whole factor: forward, division, backward, each in the place of what it was made of.
 ghost use Rattle.std.specs.Prelude.{◌≡◌, ◌+◌, ◌-◌, ◌≤◌, ◌<◌, length};
 ghost use Rattle.factor.specs.Factor.{less_by};
-ghost use Rattle.factor.specs.Places.{Placed, Placed-prop};
 ghost use Rattle.factor.specs.Solve.{highest, lower_term, upper_term, forward_from, divided_from, backward_from, solution_of, solved_by};
 
-use crate::{CELLS, STARTS, Thin, lowest_of, start_at};
-
-// A factor: the pivots of its cells, and the multipliers of all rows, row after row from their starts on. Its reach is how wide the band is.
-#[derive(Clone, Copy)]
-pub struct Factor<'a> {
-    pub pivots: &'a [f64; CELLS],
-    pub multipliers: &'a [f64],
-    pub starts: &'a [u16; STARTS],
-    pub cells: usize,
-    pub reach: usize,
-    pub ghost cells_few: { cells ≤ 120 },
-    pub ghost reach_few: { reach ≤ 120 },
-    pub ghost placed: { Placed reach cells starts.now multipliers.now } by { Placed-prop reach cells starts.now multipliers.now },
-}
+use crate::{CELLS, Factor, Thin, lowest_of, start_at};
 
 // min(n - 1, j + z)
 fn highest_of(j: usize, z: usize, n: usize) -> usize
@@ -40,29 +26,6 @@ fn less_lower(lj: &[f64], y: &[f64; CELLS], x: f64, j: usize, lo: usize) -> f64
     rest
 }
 
-// x less L(m,j) v(m), for m rising from j + 1 to top.
-fn less_upper(
-    l: &[f64],
-    starts: &[u16; STARTS],
-    z: usize,
-    v: &[f64; CELLS],
-    x: f64,
-    j: usize,
-    top: usize,
-) -> f64
-    requires { (j ≤ top) × (top < 120) × (top ≤ j + z) × Placed z (top + 1) starts.now l.now }
-    ensures { result ≡ less_by (upper_term z l.now j v.now) (j + 1) (top - j) x }
-{
-    let mut rest = x;
-    for m in j + 1..top + 1 {
-        let p = m - j - 1;
-        let at = start_at(starts, m);
-        let place = at + p;
-        rest = rest - l[place] * v[m];
-    }
-    rest
-}
-
 impl<'a> Factor<'a> {
     // y, in place of the right side.
     fn forward(self, y: &mut [f64; CELLS])
@@ -70,11 +33,9 @@ impl<'a> Factor<'a> {
     {
         for j in 0..self.cells {
             let lo = lowest_of(j, self.reach);
-            let at = start_at(self.starts, j);
-            let next = j + 1;
-            let end = start_at(self.starts, next);
+            let lj = self.row(j);
             let x = y[j];
-            let rest = less_lower(&self.multipliers[at..end], y, x, j, lo);
+            let rest = less_lower(lj, y, x, j, lo);
             y[j] = rest;
         }
     }
@@ -88,6 +49,21 @@ impl<'a> Factor<'a> {
         }
     }
 
+    // x less L(m,j) v(m), for m rising from j + 1 to top.
+    fn less_upper(self, v: &[f64; CELLS], x: f64, j: usize, top: usize) -> f64
+        requires { (j ≤ top) × (top < self.cells) × (top ≤ j + self.reach) }
+        ensures { result ≡ less_by (upper_term self.entry.reach self.entry.multipliers.now j v.now) (j + 1) (top - j) x }
+    {
+        let mut rest = x;
+        for m in j + 1..top + 1 {
+            let p = m - j - 1;
+            let at = start_at(self.starts, m);
+            let place = at + p;
+            rest = rest - self.multipliers[place] * v[m];
+        }
+        rest
+    }
+
     // v, in place of t, for j falling.
     fn backward(self, v: &mut [f64; CELLS])
         ensures { v.new ≡ backward_from self.entry.multipliers.now self.entry.reach self.entry.cells self.entry.cells v.old }
@@ -95,7 +71,7 @@ impl<'a> Factor<'a> {
         for j in (0..self.cells).rev() {
             let top = highest_of(j, self.reach, self.cells);
             let x = v[j];
-            let rest = less_upper(self.multipliers, self.starts, self.reach, v, x, j, top);
+            let rest = self.less_upper(v, x, j, top);
             v[j] = rest;
         }
     }

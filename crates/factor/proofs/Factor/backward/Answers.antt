@@ -5,12 +5,12 @@ use lib.Ieee.{Float, nan}
 use lib.ListN.{get_or, set}
 use Rattle.factor.specs.Factor.{less_by}
 use Rattle.factor.specs.Solve.{upper_term, backward_from}
-use Rattle.factor.proofs.Turns.{fewer_rows, backward_more, backward_done}
-use Rattle.factor.proofs.solve.Factor.backward.Goals as goal
+use Rattle.factor.proofs.Turns.{backward_more, backward_done}
+use Rattle.factor.proofs.Factor.backward.Goals as goal
 
 pub less_upper-rest-requires : goal.less_upper-rest-requires
 less_upper-rest-requires c = let high = c.highest_of-top.ensures in
-    (omega arith, omega arith, omega arith, fewer_rows (omega arith) c.args.self.placed)
+    (omega arith, omega arith, omega arith)
 
 pub loop-j-preserved : goal.loop-j-preserved
 loop-j-preserved c = let a = c.args in

@@ -1,7 +1,7 @@
 use mathlib.Core.Path.{sym, ◌∙◌}
 use native.Mathlib.Omega.{arith}
 use Rattle.factor.proofs.Turns.{divided_more, divided_done}
-use Rattle.factor.proofs.solve.Factor.divide.Goals as goal
+use Rattle.factor.proofs.Factor.divide.Goals as goal
 
 pub loop-j-preserved : goal.loop-j-preserved
 loop-j-preserved c = let a = c.args in

@@ -6,24 +6,11 @@ use lib.Ieee.{Float, nan}
 use lib.ListN.{get_or, set}
 use Rattle.factor.specs.Factor.{less_by}
 use Rattle.factor.specs.Solve.{lower_term, forward_from}
-use Rattle.factor.proofs.Turns.{row_ends, row_inside, row_part, row_length, forward_more, forward_done}
-use borrow.Author.Rules.{rules}
-use Rattle.factor.proofs.solve.Factor.forward.Goals as goal
-
-pub slice_bounds-less_lower-count : goal.slice_bounds-less_lower-count
-slice_bounds-less_lower-count c = let e = row_ends c.args.self.placed c.loop-j.j (omega arith) c.start_at-at.ensures.0 c.start_at-end.ensures.0 in
-    search rules
-
-pub slice_bounds-less_lower-start : goal.slice_bounds-less_lower-start
-slice_bounds-less_lower-start c = let e = row_ends c.args.self.placed c.loop-j.j (omega arith) c.start_at-at.ensures.0 c.start_at-end.ensures.0 in
-    search rules
-
-pub slice_bounds-less_lower-end : goal.slice_bounds-less_lower-end
-slice_bounds-less_lower-end c = let e = row_inside c.args.self.placed c.loop-j.j (omega arith) c.start_at-at.ensures.0 c.start_at-end.ensures.0 in
-    search rules
+use Rattle.factor.proofs.Turns.{forward_more, forward_done}
+use Rattle.factor.proofs.Factor.forward.Goals as goal
 
 pub less_lower-rest-requires : goal.less_lower-rest-requires
-less_lower-rest-requires c = let len = row_length c.args.self.placed c.loop-j.j (omega arith) c.start_at-at.ensures.0 c.start_at-end.ensures.0 in
+less_lower-rest-requires c = let len = c.row-lj.ensures.1 in
     let low = c.lowest_of-lo.ensures in
     (omega arith, omega arith, omega arith)
 
@@ -32,7 +19,7 @@ loop-j-preserved c = let a = c.args in
     let j = c.loop-j.j in
     let y = c.loop-j.y in
     let low = c.lowest_of-lo.ensures in
-    let row = row_part c.args.self.placed j (omega arith) c.start_at-at.ensures.0 c.start_at-end.ensures.0 in
+    let row = c.row-lj.ensures.0 in
     let got = c.less_lower-rest.ensures ∙ ap₂ (λ (k : ℕ) (lj : List Float). less_by (lower_term lj j y) k (j - k) (get_or y j nan)) low row in
     ap (λ (x : Float). forward_from a.self.multipliers.now a.self.reach (a.self.cells - (j + 1)) (j + 1) (set y j x)) got
     ∙ sym (forward_more a.self.multipliers.now a.self.reach j a.self.cells y (omega arith)) ∙ c.loop-j.invariant

@@ -10,15 +10,13 @@ use lib.Dec.{ltb}
 use lib.IntN.{pos, nat_abs}
 use lib.ListN.{length, take, drop, replicate, length-drop}
 use lib.Seq.{sets, sets-eq, take_all}
-use Rattle.std.specs.Prelude.{if◌then◌else◌}
+use Rattle.std.specs.Prelude.{Option, Some, None, Ok, Err, if◌then◌else◌}
+use Rattle.refusals.specs.Refusals.{number_of, place_of}
 use Rattle.numbers.specs.declared.plain.Number.{Number}
-use Rattle.numbers.specs.declared.plain.Number.TheVariants.{Value, Unreadable}
 use Rattle.numbers.specs.Plain.{number_at}
 use Rattle.jobs.specs.Words.{cells_of}
 use Rattle.jobs.specs.Packs.{read_job}
-use Rattle.measure.specs.declared.check.Verdict.{Verdict}
-use Rattle.measure.specs.declared.check.Verdict.TheVariants.{Accepted, Refused}
-use Rattle.measure.specs.Check.{check_of}
+use Rattle.measure.specs.Check.{Verdict, check_of}
 use Rattle.measure.specs.Opening.{proposal_words}
 use Rattle.checked.specs.Checked.{checked_of}
 use Rattle.checked.specs.Answers.{overwritten}
@@ -33,24 +31,24 @@ checked_fits : (job proposal : List ℕ) → length (checked_line (checked_of jo
 checked_fits job proposal = go (check_of job proposal) refl
   where
     go : (v : Verdict) → check_of job proposal ≡ v → length (checked_line (checked_of job proposal)) ≤ 1024
-    go (Accepted F G) e =
+    go (Ok figures) e =
         let words = sets (replicate 2092 (pos 0)) 0 (read_job job).words in
         let rates = sets (replicate 280 (pos 0)) 0 (proposal_words job proposal) in
-        let given = given_packs job proposal F G e words refl rates refl in
+        let given = given_packs job proposal figures.loss figures.gap e words refl rates refl in
         omega (
           arith,
-          ap length (accepted_line job proposal F G e words refl rates refl),
-          words_fit words rates (cells_of words) (nat_abs F) (nat_abs G) given.job given.values,
+          ap length (accepted_line job proposal figures.loss figures.gap e words refl rates refl),
+          words_fit words rates (cells_of words) (nat_abs figures.loss) (nat_abs figures.gap) given.job given.values,
         )
-    go (Refused number place) e = omega (arith, ap length (refused_lines job proposal number place e), two_fit number place)
+    go (Err r) e = omega (arith, ap length (refused_lines job proposal r e), two_fit (number_of r) (place_of r))
 
-packs_fit : (input : List ℕ) (number : Number) → length (packs_line input number) ≤ 1024
-packs_fit input Unreadable = two_fit 1 0
-packs_fit input (Value size next) = go (ltb (length input - next) size)
+packs_fit : (input : List ℕ) (size : Option Number) → length (packs_line input size) ≤ 1024
+packs_fit input None = two_fit 1 0
+packs_fit input (Some size) = go (ltb (length input - size.next) size.value)
   where
-    go : (t : Bool) → length (if t then printed 1 (0 ∷ []) else checked_line (checked_of (take size (drop next input)) (drop (next + size) input))) ≤ 1024
+    go : (t : Bool) → length (if t then printed 1 (0 ∷ []) else checked_line (checked_of (take size.value (drop size.next input)) (drop (size.next + size.value) input))) ≤ 1024
     go true = two_fit 1 0
-    go false = checked_fits (take size (drop next input)) (drop (next + size) input)
+    go false = checked_fits (take size.value (drop size.next input)) (drop (size.next + size.value) input)
 
 pub lines_fit : LinesFit
 unfolding line_of
@@ -71,22 +69,23 @@ line_put input bytes {out} e h p =
 
 -- ---- which line it is
 -- a length beyond what remains
-pub beyond_line : (input : List ℕ) (size next : ℕ) → length input - next < size → printed 1 (0 ∷ []) ≡ packs_line input (Value size next)
-beyond_line input size next h = rw (lt-ltb (length input - next) size h)
+pub beyond_line : (input : List ℕ) (size : Number) → length input - size.next < size.value → printed 1 (0 ∷ []) ≡ packs_line input (Some size)
+beyond_line input size h = rw (lt-ltb (length input - size.next) size.value h)
 
 -- the packs as parts of the input: the job pack up to where it ends, the proposal pack from there to the input's end
-pub packs_line_lem : (input : List ℕ) (size next : ℕ) → size ≤ length input - next
-    → checked_line (checked_of (take (next + size - next) (drop next input)) (take (length input - (next + size)) (drop (next + size) input))) ≡ packs_line input (Value size next)
-packs_line_lem input size next h =
-    let whole : next + size - next ≡ size = omega arith in
-    rw (le-ltb (length input - next) size h)
-    (ap₂ (λ (job proposal : List ℕ). checked_line (checked_of job proposal)) (ap (λ (k : ℕ). take k (drop next input)) whole)
-    (take_all (length input - (next + size)) (drop (next + size) input) (omega (arith, length-drop (next + size) input))))
+pub packs_line_lem : (input : List ℕ) (size : Number) → size.value ≤ length input - size.next
+    → checked_line (checked_of (take (size.next + size.value - size.next) (drop size.next input)) (take (length input - (size.next + size.value)) (drop (size.next + size.value) input)))
+    ≡ packs_line input (Some size)
+packs_line_lem input size h =
+    let whole : size.next + size.value - size.next ≡ size.value = omega arith in
+    rw (le-ltb (length input - size.next) size.value h)
+    (ap₂ (λ (job proposal : List ℕ). checked_line (checked_of job proposal)) (ap (λ (k : ℕ). take k (drop size.next input)) whole)
+    (take_all (length input - (size.next + size.value)) (drop (size.next + size.value) input) (omega (arith, length-drop (size.next + size.value) input))))
 
 pub long_line : (input : List ℕ) → 8192 < length input → printed 1 (8192 ∷ []) ≡ line_of input
 unfolding line_of
 long_line input h = rw (lt-ltb 8192 (length input) h)
 
-pub read_line : (input : List ℕ) {number : Number} → length input ≤ 8192 → number_at input 0 ≡ number → packs_line input number ≡ line_of input
+pub read_line : (input : List ℕ) {size : Option Number} → length input ≤ 8192 → number_at input 0 ≡ size → packs_line input size ≡ line_of input
 unfolding line_of
 read_line input h e = rw (le-ltb 8192 (length input) h, e)

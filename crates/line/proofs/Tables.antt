@@ -8,9 +8,7 @@ use lib.ListN.{length, replicate}
 use lib.Seq.{sets}
 use Rattle.jobs.specs.Words.{count_at, cells_of}
 use Rattle.jobs.specs.Packs.{read_job}
-use Rattle.measure.specs.declared.check.Verdict.{Verdict}
-use Rattle.measure.specs.declared.check.Verdict.TheVariants.{Accepted}
-use Rattle.measure.specs.Check.{check_of}
+use Rattle.measure.specs.Check.{Verdict, accepting, check_of}
 use Rattle.measure.specs.Opening.{proposal_words}
 use Rattle.checked.specs.Checked.{taken_from, checked_of}
 use Rattle.checked.specs.Given.{JobWords, Rates}
@@ -53,7 +51,7 @@ module _ {words rates : List ℤ} {n : ℕ} (J : JobWords words) (R : Rates n ra
       put_table feed = puts_same parts (puts_then head (puts_then values feed))
 
 -- ---- two packs that the check has accepted
-module _ (job proposal : List ℕ) (F G : ℤ) (e : check_of job proposal ≡ Accepted F G)
+module _ (job proposal : List ℕ) (F G : ℤ) (e : check_of job proposal ≡ accepting F G)
     (scratch : List ℤ) (stored : scratch ≡ sets (replicate 2092 (pos 0)) 0 (read_job job).words)
     (read : List ℤ) (kept : read ≡ sets (replicate 280 (pos 0)) 0 (proposal_words job proposal)) where
   pub accepted_line : table_line scratch read (cells_of scratch) (nat_abs F) (nat_abs G) ≡ checked_line (checked_of job proposal)
@@ -65,4 +63,4 @@ module _ (job proposal : List ℕ) (F G : ℤ) (e : check_of job proposal ≡ Ac
 -- ---- and two that it has refused
 pub refused_lines : RefusedLines
 unfolding checked_of checked_line
-refused_lines job proposal number place e = ap (λ (v : Verdict). verdict_line v (checked_of job proposal)) e
+refused_lines job proposal r e = ap (λ (v : Verdict). verdict_line v (checked_of job proposal)) e

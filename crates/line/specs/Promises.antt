@@ -1,9 +1,10 @@
 -- What is promised of the lines.
 use Rattle.std.specs.Prelude.{ℕ, ◌≤◌, ◌≡◌, List, [], ◌∷◌, length}
-use Rattle.measure.specs.declared.check.Verdict.TheVariants.{Refused}
+use Rattle.std.specs.Prelude.{Err}
+use Rattle.refusals.specs.declared.Refusal.{Refusal}
+use Rattle.refusals.specs.Refusals.{number_of, place_of}
 use Rattle.measure.specs.Check.{check_of}
 use Rattle.checked.specs.Checked.{checked_of}
-use Rattle.decimals.specs.Decimal.{decimal}
 use Rattle.line.specs.Line.{printed, checked_line, line_of}
 
 -- Every line fits the 1,024 bytes that are lent for it.
@@ -13,7 +14,7 @@ LinesFit = (input : List ℕ) → length (line_of input) ≤ 1024
 -- "Refused: number and place": those of the check, the place of 9 (W-202) too.
 abbrev pub RefusedLines : Type 0
 RefusedLines =
-    (job proposal : List ℕ) (number place : ℕ) → check_of job proposal ≡ Refused number place → checked_line (checked_of job proposal) ≡ printed number (place ∷ [])
+    (job proposal : List ℕ) (r : Refusal) → check_of job proposal ≡ Err r → checked_line (checked_of job proposal) ≡ printed (number_of r) (place_of r ∷ [])
 
 -- Document 01's example, 13 03 07 03 02 01 00 00 01 00 64 07 01 00 64 00 01 00 64 00 02 03 02 in hex, and "0 3 7 28 0 2 3 2" with its line feed.
 abbrev pub example : List ℕ

@@ -1,11 +1,11 @@
 // The line that the checking program prints for an input (document 01, "The checking program"). The program itself only reads and writes.
 #![tactic(auto)]
 
-ghost use Rattle.std.specs.Prelude.{◌≡◌, ◌≤◌, length};
-ghost use Rattle.numbers.specs.declared.plain.Number.TheVariants.{Value};
+ghost use Rattle.std.specs.Prelude.{◌≡◌, ◌≤◌, [], ◌∷◌, length};
+ghost use Rattle.refusals.specs.Refusals.{number_of, place_of};
 ghost use Rattle.checked.specs.Checked.{checked_of};
 ghost use Rattle.checked.specs.Answers.{overwritten};
-ghost use Rattle.line.specs.Line.{checked_line, packs_line, line_of};
+ghost use Rattle.line.specs.Line.{printed, checked_line, packs_line, line_of};
 ghost use Rattle.decimals.specs.Puts.{Puts};
 
 mod parted;
@@ -15,13 +15,20 @@ use crate::parted::put_two;
 use crate::table::put_table;
 use jobs::job::JOB_WORDS;
 use jobs::proposal::PROPOSAL_WORDS;
-use measure::check::{Verdict, check_into};
-use numbers::plain::Number;
+use measure::check::check_into;
+use numbers::plain::{Number, number_at};
+use refusals::Refusal;
 
-// The most bytes that the program reads, and the same as the place of a longer input.
+// The most bytes that the program reads, and the place of a longer input.
 const LIMIT: usize = 8192;
 
-const LIMIT_PLACE: u64 = 8192;
+// The line of a refusal.
+fn put_refusal(r: Refusal, out: &mut [u8]) -> usize
+    requires { 1024 ≤ length out.old }
+    ensures { Puts (printed (number_of r) (place_of r ∷ [])) out.old 0 result out.new }
+{
+    put_two(refusals::number_of(r), refusals::place_of(r) as u64, out)
+}
 
 // The line of the check of two packs.
 fn put_check(job: &[u8], proposal: &[u8], out: &mut [u8]) -> usize
@@ -30,24 +37,23 @@ fn put_check(job: &[u8], proposal: &[u8], out: &mut [u8]) -> usize
 {
     let mut words = [0i64; JOB_WORDS];
     let mut rates = [0i64; PROPOSAL_WORDS];
-    let verdict = check_into(job, proposal, &mut words, &mut rates);
-    match verdict {
-        Verdict::Accepted { loss, gap } => put_table(&words, &rates, loss, gap, out),
-        Verdict::Refused { number, place } => put_two(number, place as u64, out),
+    match check_into(job, proposal, &mut words, &mut rates) {
+        Ok(figures) => put_table(&words, &rates, figures, out),
+        Err(r) => put_refusal(r, out),
     }
 }
 
-// The line of an input whose job pack is `size` bytes long and starts at `next`.
-fn put_packs(input: &[u8], size: u64, next: usize, out: &mut [u8]) -> usize
-    requires { (next ≤ length input.now) × (1024 ≤ length out.old) }
-    ensures { Puts (packs_line input.now (Value size next)) out.old 0 result out.new }
+// The line of an input whose job pack is `size.value` bytes long and starts at `size.next`.
+fn put_packs(input: &[u8], size: Number, out: &mut [u8]) -> usize
+    requires { (size.next ≤ length input.now) × (1024 ≤ length out.old) }
+    ensures { Puts (packs_line input.now (Some size)) out.old 0 result out.new }
 {
-    let left = input.len() - next;
-    if (left as u64) < size {
-        return put_two(1, 0, out);
+    let left = input.len() - size.next;
+    if (left as u64) < size.value {
+        return put_refusal(Refusal::Unreadable(0), out);
     }
-    let end = next + (size as usize);
-    put_check(&input[next..end], &input[end..], out)
+    let end = size.next + (size.value as usize);
+    put_check(&input[size.next..end], &input[end..], out)
 }
 
 // Puts the line of an input at the front of the output, and answers how many bytes it has.
@@ -56,11 +62,10 @@ pub fn line_of(input: &[u8], out: &mut [u8; 1024]) -> usize
     ensures output { out.new ≡ overwritten out.old (line_of input.now) }
 {
     if LIMIT < input.len() {
-        return put_two(1, LIMIT_PLACE, out);
+        return put_refusal(Refusal::Unreadable(LIMIT), out);
     }
-    let number = numbers::plain::number_at(input, 0);
-    match number {
-        Number::Value { value, next } => put_packs(input, value, next, out),
-        Number::Unreadable => put_two(1, 0, out),
+    match number_at(input, 0) {
+        Some(size) => put_packs(input, size, out),
+        None => put_refusal(Refusal::Unreadable(0), out),
     }
 }

@@ -10,6 +10,7 @@ ghost use Rattle.line.specs.Puts.{head_fields};
 use crate::parted::{put_end, put_field, put_values};
 use checked::count_at;
 use decimals::printing::put_number;
+use measure::check::Figures;
 use numbers::zigzag::size_of;
 
 // The fields before the values.
@@ -37,12 +38,12 @@ fn put_rates(words: &[i64], rates: &[i64], n: usize, loss: u64, gap: u64, out: &
 }
 
 // The line of a table that the check has accepted with that loss and gap: the numbers of a proposal, for a job's words.
-pub fn put_table(words: &[i64], rates: &[i64], loss: i64, gap: i64, out: &mut [u8]) -> usize
+pub fn put_table(words: &[i64], rates: &[i64], figures: Figures, out: &mut [u8]) -> usize
     requires { Given words.now rates.now × (1024 ≤ length out.old) }
-    ensures { Puts (printed 0 (count_at words.now 0 ∷ count_at words.now 1 ∷ nat_abs loss ∷ nat_abs gap ∷ taken_from 0 (cells_of words.now) rates.now)) out.old 0 result out.new }
+    ensures { Puts (printed 0 (count_at words.now 0 ∷ count_at words.now 1 ∷ nat_abs figures.loss ∷ nat_abs figures.gap ∷ taken_from 0 (cells_of words.now) rates.now)) out.old 0 result out.new }
 {
-    let f = size_of(loss);
-    let g = size_of(gap);
+    let loss = size_of(figures.loss);
+    let gap = size_of(figures.gap);
     let n = count_at(words, 2);
-    put_rates(words, rates, n as usize, f, g, out)
+    put_rates(words, rates, n as usize, loss, gap, out)
 }

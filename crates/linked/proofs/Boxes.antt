@@ -13,16 +13,19 @@ use lib.Signed.{◌≤ℤ◌, le_z}
 use Rattle.std.specs.Prelude.{if◌then◌else◌}
 use Rattle.numbers.proofs.Clash.{clash}
 use Rattle.whole.proofs.Order.{pos_mono}
+use Rattle.std.specs.Prelude.{Err}
+use Rattle.refusals.specs.declared.Refusal.{Refusal}
+use Rattle.refusals.specs.declared.Refusal.TheVariants.{OutsideBox, BrokenLink, GapAbove}
+use Rattle.refusals.specs.Refusals.{number_of}
 use Rattle.jobs.specs.Job.{Job}
 use Rattle.jobs.specs.Words.{word_at}
 use Rattle.jobs.specs.Allowed.{Allowed}
 use Rattle.jobs.proofs.Readings.{read_jobs_allowed}
 use Rattle.jobs.specs.Packs.{job_in}
-use Rattle.measure.specs.declared.check.Verdict.TheVariants.{Accepted, Refused as Rejected}
 use Rattle.measure.specs.Loss.{loss_of}
 use Rattle.measure.specs.Gap.{gap_of}
 use Rattle.measure.specs.Largest.{largest_place}
-use Rattle.measure.specs.Check.{lowest_failing, in_box, holds, values_of, multipliers_of, verdict_of}
+use Rattle.measure.specs.Check.{accepting, lowest_failing, in_box, holds, values_of, multipliers_of, verdict_of}
 use Rattle.measure.proofs.Lowest.{lowest_all}
 use Rattle.house.proofs.Boxed.{value_between}
 use Rattle.passes.specs.Hildreth.{State}
@@ -51,18 +54,19 @@ module _ (j : Job) (a : Allowed j) (s : State) where
   no_seven = rw (lowest_all (in_box j (values_of (linked_words j s))) j.cells in_box_lem) (le-ltb j.cells j.cells (N.le_refl j.cells))
 
 -- which refusals are left
-left : (a b c : Bool) (p q r : ℕ) (f g : ℤ) (number place : ℕ) → a ≡ false
-    → (if a then Rejected 7 p else if b then Rejected 8 q else if c then Accepted f g else Rejected 9 r) ≡ Rejected number place → (number ≡ 8) ⊎ (number ≡ 9)
-left true b c p q r f g number place h e = clash (cc)
-left false true c p q r f g number place h e = inl (let x : 8 ≡ number = cc in sym x)
-left false false true p q r f g number place h e = clash (cc)
-left false false false p q r f g number place h e = inr (let x : 9 ≡ number = cc in sym x)
+left : (a b c : Bool) (p q m : ℕ) (f g : ℤ) (r : Refusal) → a ≡ false
+    → (if a then Err (OutsideBox p) else if b then Err (BrokenLink q) else if c then accepting f g else Err (GapAbove m)) ≡ Err r
+    → (number_of r ≡ 8) ⊎ (number_of r ≡ 9)
+left true b c p q m f g r h e = clash (cc)
+left false true c p q m f g r h e = inl (let x : 8 ≡ number_of r = cc in sym x)
+left false false true p q m f g r h e = clash (cc)
+left false false false p q m f g r h e = inr (let x : 9 ≡ number_of r = cc in sym x)
 
 pub rejected_by_link_or_gap : RejectedByLinkOrGap
 unfolding verdict_after verdict_of
-rejected_by_link_or_gap job k read s number place e =
+rejected_by_link_or_gap job k read s r e =
     let j = job_in job in
     let v = values_of (linked_words j s) in
     let y = multipliers_of j.cells (linked_words j s) in
     left (ltb (lowest_failing (in_box j v) j.cells) j.cells) (ltb (lowest_failing (holds j v) j.links) j.links) (le_z (gap_of j v y) j.tolerance)
-    (lowest_failing (in_box j v) j.cells) (lowest_failing (holds j v) j.links) (largest_place j v y) (loss_of j v) (gap_of j v y) number place (no_seven j (read_jobs_allowed job k read) s) e
+    (lowest_failing (in_box j v) j.cells) (lowest_failing (holds j v) j.links) (largest_place j v y) (loss_of j v) (gap_of j v y) r (no_seven j (read_jobs_allowed job k read) s) e

@@ -1,5 +1,5 @@
 -- Pass after pass: after each the code has the state that the sequence has, and it stops at the first pass whose proposal is accepted.
-use Prim.Native.Nat.{ℕ, suc, ◌+◌, ◌≤◌, ◌<◌, min}
+use Prim.Native.Nat.{ℕ, suc, ◌+◌, ◌<◌, min}
 use mathlib.Core.Path.{◌≡◌, sym, ap, subst, ◌∙◌}
 use mathlib.Core.Bool.{Bool, false, not}
 use mathlib.Core.List.{List}
@@ -13,7 +13,6 @@ use Rattle.measure.proofs.Lowest.{Passed, lowest_all, lowest_at}
 use Rattle.passes.specs.Hildreth.{State, link_of, pass_from, pass_of, after_pass}
 use Rattle.checked.specs.Answers.{accepted}
 use Rattle.linked.specs.Proposal.{verdict_after, accepted_at, passes_before}
-use Rattle.factor.specs.Places.{Placed}
 use Rattle.passes.specs.OnWords.{state, Counted}
 use Rattle.linked.specs.Given.{Starting}
 

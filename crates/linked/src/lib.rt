@@ -11,7 +11,7 @@ use fields::Field;
 use house::proposal::COLUMNS;
 use jobs::job::JOB_WORDS;
 use jobs::words::columns_of;
-use packs::Outcome;
+use refusals::Refusal;
 
 pub mod rounded;
 pub mod search;
@@ -19,48 +19,33 @@ pub mod search;
 // The most passes that may be asked for.
 const PASSES: u64 = 200;
 
-// What the house answers: a proposal of so many bytes after so many passes, or a refusal with a number and a place.
+// A proposal that is accepted: how many bytes it has, and after how many passes it was made.
 #[derive(Clone, Copy)]
-pub enum Offer {
-    Proposed { bytes: usize, passes: u64 },
-    Refused { number: u64, place: usize },
+pub struct Offer {
+    pub bytes: usize,
+    pub passes: u64,
 }
 
 // The proposal for the words of a job that was read.
-fn propose_for(words: &[i64], given: u64, out: &mut [u8]) -> Offer
+fn propose_for(words: &[i64], given: u64, out: &mut [u8]) -> Result<Offer, Refusal>
     requires { Known words.now × (given ≤ 200) }
     ensures { Ends (linked_for (length out.old) given (job_of words.now)) out.old result out.new }
 {
     let columns = columns_of(words);
     if COLUMNS < columns {
-        return Offer::Refused {
-            number: 20,
-            place: 0,
-        };
+        return Err(Refusal::NotProposed);
     }
     search_shape(words, columns, given, out)
 }
 
 // The house proposal that honours links, for a job pack and at most so many passes. A refusal writes nothing; room is tested last.
-pub fn propose_linked(job: &[u8], passes: u64, out: &mut [u8]) -> Offer
+pub fn propose_linked(job: &[u8], passes: u64, out: &mut [u8]) -> Result<Offer, Refusal>
     ensures { Ends (linked_of (length out.old) passes job.now) out.old result out.new }
 {
-    if passes < 1 {
-        return Offer::Refused {
-            number: 21,
-            place: 0,
-        };
-    }
-    if PASSES < passes {
-        return Offer::Refused {
-            number: 21,
-            place: 0,
-        };
+    if !(1..=PASSES).contains(&passes) {
+        return Err(Refusal::PassesNotAllowed);
     }
     let mut words = [0i64; JOB_WORDS];
-    let r = packs::reading::read(job, Field::Society, &mut words);
-    match r {
-        Outcome::Done(k) => propose_for(&words[0..k], passes, out),
-        Outcome::Refused(number, place) => Offer::Refused { number, place },
-    }
+    let k = packs::reading::read(job, Field::Society, &mut words)?;
+    propose_for(&words[0..k], passes, out)
 }

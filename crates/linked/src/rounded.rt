@@ -13,9 +13,9 @@ use factor::CELLS;
 use house::proposal::values_into;
 use house::rounding::round_out;
 use jobs::proposal::PROPOSAL_WORDS;
-use measure::check::{Verdict, check_first};
-use packs::Outcome;
+use measure::check::check_first;
 use passes::method::LINKS;
+use refusals::Refusal;
 
 // The largest multiplier of a proposal.
 const LARGEST: u32 = 1000000000;
@@ -47,15 +47,6 @@ fn words_after(
     made
 }
 
-fn is_accepted(verdict: Verdict) -> bool
-    ensures { result ≡ accepted verdict }
-{
-    match verdict {
-        Verdict::Accepted { .. } => true,
-        Verdict::Refused { .. } => false,
-    }
-}
-
 // Whether the check accepts the proposal.
 pub fn accepts(words: &[i64], n: usize, links: usize, v: &[f64; CELLS], y: &[f64; LINKS]) -> bool
     requires { Counted words.now n links }
@@ -63,8 +54,7 @@ pub fn accepts(words: &[i64], n: usize, links: usize, v: &[f64; CELLS], y: &[f64
 {
     let made = words_after(words, n, links, v, y);
     let count = n + links;
-    let verdict = check_first(words, &made, count);
-    is_accepted(verdict)
+    check_first(words, &made, count).is_ok()
 }
 
 // Writes the proposal's pack.
@@ -75,7 +65,7 @@ pub fn write_after(
     v: &[f64; CELLS],
     y: &[f64; LINKS],
     out: &mut [u8],
-) -> Outcome
+) -> Result<usize, Refusal>
     requires { Counted words.now n links }
     ensures { Leaves (written_after (length out.old) (job_of words.now) (state v.now y.now)) out.old result out.new }
 {

@@ -6,7 +6,7 @@ ghost use Rattle.house.specs.Held.{Narrow};
 ghost use Rattle.house.specs.Proposal.{solved_of};
 ghost use Rattle.passes.specs.Hildreth.{after_pass};
 ghost use Rattle.passes.specs.OnWords.{state};
-ghost use Rattle.linked.specs.Proposal.{Ends, passes_before, counting, on_first, on_ending};
+ghost use Rattle.linked.specs.Proposal.{Ends, passes_before, on_first, on_ending};
 ghost use Rattle.linked.specs.Given.{Factored, Starting};
 
 use crate::Offer;
@@ -16,8 +16,8 @@ use house::band::right;
 use house::factoring::{LINE_PLACES, solve_line_into};
 use house::grid::{GRID_PLACES, solve_grid};
 use jobs::words::{cells_of, links_of, order_of};
-use packs::Outcome;
 use passes::method::{LINKS, pass};
+use refusals::Refusal;
 
 // How many passes come before the first whose proposal is accepted, or the number given. Values and multipliers stay as they are then.
 fn search(
@@ -44,16 +44,6 @@ fn search(
     given
 }
 
-// The offer that goes with a pack written after so many passes.
-fn counting_passes(written: Outcome, passes: u64) -> Offer
-    ensures { result ≡ counting passes written }
-{
-    match written {
-        Outcome::Done(bytes) => Offer::Proposed { bytes, passes },
-        Outcome::Refused(number, place) => Offer::Refused { number, place },
-    }
-}
-
 // The search from the house's values before rounding, and what it offers.
 fn improve_from(
     words: &[i64],
@@ -65,21 +55,21 @@ fn improve_from(
     given: u64,
     v: &mut [f64; CELLS],
     out: &mut [u8],
-) -> Offer
+) -> Result<Offer, Refusal>
     requires { Factored words.now n z d.now l.now starts.now × (v.old ≡ (solved_of (job_of words.now)).values) × (given ≤ 200) }
     ensures { Ends (on_first (length out.old) given (job_of words.now) (passes_before (job_of words.now) given)) out.old result out.new }
 {
     let links = links_of(words, n);
     let mut y = [0.0; LINKS];
     let before = search(words, n, links, z, d, l, starts, given, v, &mut y);
-    if before < given {
-        let written = write_after(words, n, links, v, &y, out);
-        return counting_passes(written, before + 1);
+    if given <= before {
+        return Err(Refusal::NotReached(given as usize));
     }
-    Offer::Refused {
-        number: 14,
-        place: given as usize,
-    }
+    let bytes = write_after(words, n, links, v, &y, out)?;
+    Ok(Offer {
+        bytes,
+        passes: before + 1,
+    })
 }
 
 // The offer by how the factoring ended.
@@ -94,21 +84,18 @@ fn on_ending(
     given: u64,
     v: &mut [f64; CELLS],
     out: &mut [u8],
-) -> Offer
+) -> Result<Offer, Refusal>
     requires { (ending ≡ (solved_of (job_of words.now)).ending) × Factored words.now n z d.now l.now starts.now × (v.old ≡ (solved_of (job_of words.now)).values) × (given ≤ 200) }
     ensures { Ends (on_ending (length out.old) given (job_of words.now) (solved_of (job_of words.now)).ending) out.old result out.new }
 {
-    match ending {
-        Err(thin) => Offer::Refused {
-            number: 10,
-            place: thin.cell,
-        },
-        Ok(()) => improve_from(words, n, z, d, l, starts, given, v, out),
+    if let Err(thin) = ending {
+        return Err(Refusal::TooThin(thin.cell));
     }
+    improve_from(words, n, z, d, l, starts, given, v, out)
 }
 
 // The offer for a line, and for a grid, each with room for its own factor.
-fn search_line(words: &[i64], z: usize, given: u64, out: &mut [u8]) -> Offer
+fn search_line(words: &[i64], z: usize, given: u64, out: &mut [u8]) -> Result<Offer, Refusal>
     requires { Known words.now × (columns_of words.now ≡ 1) × (z ≡ order_of words.now) × (given ≤ 200) }
     ensures { Ends (on_ending (length out.old) given (job_of words.now) (solved_of (job_of words.now)).ending) out.old result out.new }
 {
@@ -122,7 +109,7 @@ fn search_line(words: &[i64], z: usize, given: u64, out: &mut [u8]) -> Offer
     on_ending(ending, words, n, z, &d, &l, &starts, given, &mut v, out)
 }
 
-fn search_grid(words: &[i64], z: usize, given: u64, out: &mut [u8]) -> Offer
+fn search_grid(words: &[i64], z: usize, given: u64, out: &mut [u8]) -> Result<Offer, Refusal>
     requires { Narrow words.now z × (columns_of words.now ≡ 1 → ⊥) × (given ≤ 200) }
     ensures { Ends (on_ending (length out.old) given (job_of words.now) (solved_of (job_of words.now)).ending) out.old result out.new }
 {
@@ -137,14 +124,14 @@ fn search_grid(words: &[i64], z: usize, given: u64, out: &mut [u8]) -> Offer
 }
 
 // The same of a low order, and a grid of a small reach: with these, as at the house proposal, a line does not pay for a grid's room.
-fn search_low_line(words: &[i64], z: usize, given: u64, out: &mut [u8]) -> Offer
+fn search_low_line(words: &[i64], z: usize, given: u64, out: &mut [u8]) -> Result<Offer, Refusal>
     requires { Known words.now × (columns_of words.now ≡ 1) × (z ≡ order_of words.now) × (given ≤ 200) }
     ensures { Ends (on_ending (length out.old) given (job_of words.now) (solved_of (job_of words.now)).ending) out.old result out.new }
 {
     search_line(words, z, given, out)
 }
 
-fn search_small_grid(words: &[i64], z: usize, given: u64, out: &mut [u8]) -> Offer
+fn search_small_grid(words: &[i64], z: usize, given: u64, out: &mut [u8]) -> Result<Offer, Refusal>
     requires { Narrow words.now z × (columns_of words.now ≡ 1 → ⊥) × (given ≤ 200) }
     ensures { Ends (on_ending (length out.old) given (job_of words.now) (solved_of (job_of words.now)).ending) out.old result out.new }
 {
@@ -152,7 +139,12 @@ fn search_small_grid(words: &[i64], z: usize, given: u64, out: &mut [u8]) -> Off
 }
 
 // The offer by what the job is. A job that is no grid has one column.
-pub fn search_shape(words: &[i64], columns: usize, given: u64, out: &mut [u8]) -> Offer
+pub fn search_shape(
+    words: &[i64],
+    columns: usize,
+    given: u64,
+    out: &mut [u8],
+) -> Result<Offer, Refusal>
     requires { Known words.now × (columns ≡ columns_of words.now) × (columns ≤ 12) × (given ≤ 200) }
     ensures { Ends (on_ending (length out.old) given (job_of words.now) (solved_of (job_of words.now)).ending) out.old result out.new }
 {

@@ -32,8 +32,6 @@ use Rattle.refusals.specs.Refusals.{number_of}
 pub lent_length : (m : ℕ) (ws l : List ℤ) → l ≡ sets (replicate m (pos 0)) 0 ws → m ≡ length l
 lent_length m ws l e = sym (ap length e ∙ length-sets (replicate m (pos 0)) 0 ws ∙ length-replicate m (pos 0))
 
--- ---- a proposal for a job's words
-
 -- ---- a job, then its proposal
 
 module _ (job proposal : List ℕ) where

@@ -1,14 +1,19 @@
 -- What a call says and leaves, by what the test of its shelf found.
-use mathlib.Core.Path.{◌≡◌, sym, ap, ◌∙◌}
+use mathlib.Core.Path.{◌≡◌, refl, sym, ap, ◌∙◌}
 use mathlib.Core.List.{List}
 use Prim.Native.Nat.{ℕ}
-use Rattle.std.specs.Prelude.{Err}
+use Rattle.std.specs.Prelude.{Ok, Err}
 use Rattle.refusals.specs.declared.Refusal.{Refusal}
 use Rattle.counts.specs.Counts.{Tested, passed as allowed, test_shelf, on_tested, row_in, cleared}
 use Rattle.checked.specs.declared.Answer.{Answer}
 use Rattle.checked.specs.Answers.{Reply, refusal, refused, done}
 use Rattle.shelf.specs.Shelf.{layout_in}
 use Rattle.shelf.specs.Calls.{Own, own, clear, laid_after, laid_said, after, said}
+
+-- what is no refusal has passed
+pub passing : (o : Tested) → ((r : Refusal) → o ≡ Err r → ⊥) → o ≡ allowed
+passing (Ok u) n = refl
+passing (Err r) n = absurd (n r refl)
 
 module _ (shelf : List ℕ) where
   -- ---- a society's call

@@ -18,13 +18,13 @@ use Rattle.std.specs.Prelude.{if◌then◌else◌}
 use Rattle.jobs.specs.Job.{Job}
 use Rattle.jobs.specs.Words.{word_at, links_of}
 use Rattle.jobs.specs.Allowed.{Upto, Proposed}
-use Rattle.measure.specs.declared.check.Verdict.{Verdict}
-use Rattle.measure.specs.declared.check.Verdict.TheVariants.{Accepted, Refused}
+use Rattle.std.specs.Prelude.{Err}
+use Rattle.refusals.specs.declared.Refusal.TheVariants.{BadProposal}
 use Rattle.measure.specs.Given as goal
 use Rattle.measure.proofs.Lowest.{lowest_all, passed_all}
 use Rattle.slots.specs.Slots.{head_size, values_end}
 use Rattle.checked.specs.Answers.{refusal}
-use Rattle.measure.specs.Check.{verdict_for}
+use Rattle.measure.specs.Check.{Verdict, accepting, verdict_for}
 use Rattle.shelf.specs.Fetched.{most_value, most_multiplier, up_to, lowest_above, or_six, proposal_of, kept_verdict, handed}
 use Rattle.shelf.specs.Given.{Judging}
 use Rattle.checked.proofs.Values.{map_append}
@@ -90,14 +90,14 @@ judged_given ws v y J =
 
 -- ---- what the searches found
 module _ (first most : ℕ) (numbers : List ℕ) (x : ℕ) (e : x ≡ lowest_above most numbers) (later : Verdict) where
-  six_at : x < length numbers → Refused 6 (first + x) ≡ or_six first most numbers later
+  six_at : x < length numbers → Err (BadProposal (first + x)) ≡ or_six first most numbers later
   six_at h =
-      ap {B = Verdict} (λ (k : ℕ). Refused 6 (first + k)) e
-      ∙ sym (ap {B = Verdict} (λ (b : Bool). if b then Refused 6 (first + lowest_above most numbers) else later) (lt-ltb (lowest_above most numbers) (length numbers) (subst (λ (k : ℕ). k < length numbers) e h)))
+      ap {B = Verdict} (λ (k : ℕ). Err (BadProposal (first + k))) e
+      ∙ sym (ap {B = Verdict} (λ (b : Bool). if b then Err (BadProposal (first + lowest_above most numbers)) else later) (lt-ltb (lowest_above most numbers) (length numbers) (subst (λ (k : ℕ). k < length numbers) e h)))
 
   six_none : length numbers ≤ x → later ≡ or_six first most numbers later
   six_none h =
-      sym (ap {B = Verdict} (λ (b : Bool). if b then Refused 6 (first + lowest_above most numbers) else later) (le-ltb (lowest_above most numbers) (length numbers) (subst (λ (k : ℕ). length numbers ≤ k) e h)))
+      sym (ap {B = Verdict} (λ (b : Bool). if b then Err (BadProposal (first + lowest_above most numbers)) else later) (le-ltb (lowest_above most numbers) (length numbers) (subst (λ (k : ℕ). length numbers ≤ k) e h)))
 
 pub all_allowed : (most : ℕ) (numbers : List ℕ) (x : ℕ) → x ≡ lowest_above most numbers → length numbers ≤ x → (i : ℕ) → i < length numbers → up_to most numbers i ≡ true
 all_allowed most numbers x e h = passed_all (up_to most numbers) (length numbers) (subst (λ (k : ℕ). length numbers ≤ k) e h)
@@ -106,12 +106,12 @@ module _ (j : Job) (v y : List ℕ) (a : ℕ) (ea : a ≡ lowest_above most_valu
   abbrev after_values : Verdict
   after_values = or_six values_end most_multiplier y (verdict_for j (proposal_of v y))
 
-  pub value_six : a < length v → Refused 6 (head_size + a) ≡ kept_verdict j v y
+  pub value_six : a < length v → Err (BadProposal (head_size + a)) ≡ kept_verdict j v y
   unfolding kept_verdict
   value_six h = six_at head_size most_value v a ea after_values h
 
   module _ (h : length v ≤ a) (b : ℕ) (eb : b ≡ lowest_above most_multiplier y) where
-    pub multiplier_six : b < length y → Refused 6 (values_end + b) ≡ kept_verdict j v y
+    pub multiplier_six : b < length y → Err (BadProposal (values_end + b)) ≡ kept_verdict j v y
     unfolding kept_verdict
     multiplier_six k = six_at values_end most_multiplier y b eb (verdict_for j (proposal_of v y)) k ∙ six_none head_size most_value v a ea after_values h
 
@@ -129,8 +129,8 @@ allowed_verdict j v y hv hy = sym (none_six j v y (lowest_above most_value v) re
 
 -- ---- the values of an accepted table
 module _ (room : ℕ) (v : List ℕ) (F G : ℤ) where
-  pub hand_short : room < length v → refusal 13 (length v) ≡ handed room v (Accepted F G)
+  pub hand_short : room < length v → refusal 13 (length v) ≡ handed room v (accepting F G)
   hand_short h = rw (lt-leb (length v) room h)
 
-  pub hand_given : length v ≤ room → (f g : ℕ) → f ≡ nat_abs F → g ≡ nat_abs G → record { answer = record { number = 0; place = length v; loss = f; gap = g }; values = v } ≡ handed room v (Accepted F G)
+  pub hand_given : length v ≤ room → (f g : ℕ) → f ≡ nat_abs F → g ≡ nat_abs G → record { answer = record { number = 0; place = length v; loss = f; gap = g }; values = v } ≡ handed room v (accepting F G)
   hand_given h f g ef eg = rw (le-leb (length v) room h, ef, eg)

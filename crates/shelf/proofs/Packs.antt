@@ -10,13 +10,13 @@ use lib.ListN.{length, take, drop, replicate, length-drop}
 use lib.Seq.{sets, length-take-le, take_at}
 use Rattle.jobs.specs.Words.{word_at, count_at, cells_of, head_words, links_of, job_of}
 use Rattle.jobs.specs.Packs.{read_job}
-use Rattle.measure.specs.declared.check.Verdict.{Verdict}
-use Rattle.measure.specs.declared.check.Verdict.TheVariants.{Accepted, Refused}
-use Rattle.measure.specs.Check.{check_of}
+use Rattle.std.specs.Prelude.{Err}
+use Rattle.refusals.specs.declared.Refusal.{Refusal}
+use Rattle.measure.specs.Check.{Verdict, accepting, check_of}
 use Rattle.measure.specs.Opening.{proposal_words}
 use Rattle.checked.specs.declared.Answer.{Answer}
 use Rattle.checked.specs.Checked.{taken_from, checked_of, values_of, multipliers_of}
-use Rattle.checked.specs.Answers.{accepted, answer_of}
+use Rattle.checked.specs.Answers.{refused, accepted, answer_of}
 use Rattle.checked.specs.Given.{Given}
 use Rattle.checked.proofs.Values.{length_map}
 use Rattle.checked.proofs.Packs.{packs_name, packs_multiply}
@@ -56,7 +56,7 @@ kept_by_lem l words loss gap s j p q vs us ys zs r t shelf left e =
     ∙ ap₂ (λ (x y : List ℕ). kept_from l words loss gap x y shelf) r t
 
 -- ---- two packs that the check has accepted
-module _ (job proposal : List ℕ) (F G : ℤ) (e : check_of job proposal ≡ Accepted F G)
+module _ (job proposal : List ℕ) (F G : ℤ) (e : check_of job proposal ≡ accepting F G)
     (scratch : List ℤ) (stored : scratch ≡ sets (replicate 2092 (pos 0)) 0 (read_job job).words)
     (rates : List ℤ) (read : rates ≡ sets (replicate 280 (pos 0)) 0 (proposal_words job proposal)) where
   abbrev ws : List ℤ
@@ -79,10 +79,10 @@ module _ (job proposal : List ℕ) (F G : ℤ) (e : check_of job proposal ≡ Ac
       )
 
 -- ---- and two that it has refused
-pub refused_packs : (l : Layout) (job proposal : List ℕ) (number place : ℕ) → check_of job proposal ≡ Refused number place → (a : Answer) → a ≡ record { number = number; place = place; loss = 0; gap = 0 }
+pub refused_packs : (l : Layout) (job proposal : List ℕ) (r : Refusal) → check_of job proposal ≡ Err r → (a : Answer) → a ≡ (refused r).answer
     → (shelf : List ℕ) → (a ≡ (keep_reply (checked_of job proposal)).answer) × (shelf ≡ kept_shelf l (checked_of job proposal) shelf)
 unfolding checked_of kept_shelf keep_reply
-refused_packs l job proposal number place e a p shelf =
+refused_packs l job proposal r e a p shelf =
     let s = count_at (read_job job).words 0 in
     let j = count_at (read_job job).words 1 in
     let vs = values_of (job_of (read_job job).words) proposal in

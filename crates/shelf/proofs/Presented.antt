@@ -6,24 +6,25 @@ use native.Mathlib.Omega.{arith}
 use lib.IntN.{ℤ}
 use lib.ListN.{length, take}
 use lib.Seq.{sets}
-use Rattle.packs.specs.declared.Outcome.{Outcome}
-use Rattle.packs.specs.declared.Outcome.TheVariants.{Done, Refused as Refuses}
+use Rattle.std.specs.Prelude.{Ok, Err}
+use Rattle.refusals.specs.declared.Refusal.{Refusal}
+use Rattle.packs.specs.Reading.{Outcome}
 use Rattle.jobs.specs.Words.{job_of}
 use Rattle.jobs.specs.Allowed.{Allowed, Laid}
 use Rattle.jobs.specs.Packs.{read_job}
 use Rattle.jobs.proofs.Handed.{held_room, held_part}
 use Rattle.jobs.proofs.Readings.{read_jobs_allowed, read_jobs_laid, read_words_counted, read_words_few}
-use Rattle.checked.specs.Answers.{Reply, refusal}
+use Rattle.checked.specs.Answers.{Reply, refused}
 use Rattle.shelf.specs.Fetched.{on_job}
 use Rattle.shelf.specs.Shelf.{Layout, fetch_from, fetch_reply}
 
 module _ (job : List ℕ) {o : Outcome} (l₀ : List ℤ) {l : List ℤ} (long : length l₀ ≡ 2092) (eo : o ≡ (read_job job).outcome) (q : l ≡ sets l₀ 0 (read_job job).words) (lay : Layout) (room : ℕ) (shelf : List ℕ) where
-  pub fetch_unread : {number place : ℕ} → o ≡ Refuses number place → refusal number place ≡ fetch_reply lay job room shelf
+  pub fetch_unread : {r : Refusal} → o ≡ Err r → refused r ≡ fetch_reply lay job room shelf
   unfolding fetch_reply
   fetch_unread u = ap {B = Reply} (λ (x : Outcome). on_job x (fetch_from lay (job_of (read_job job).words) room shelf)) (sym (sym eo ∙ u))
 
-  module _ {k : ℕ} (u : o ≡ Done k) where
-    read : (read_job job).outcome ≡ Done k
+  module _ {k : ℕ} (u : o ≡ Ok k) where
+    read : (read_job job).outcome ≡ Ok k
     read = sym eo ∙ u
 
     few : k ≤ 2092

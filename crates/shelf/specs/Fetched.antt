@@ -2,14 +2,13 @@
 -- answering as the check would, with the new F and G." From any words of a span.
 use Rattle.std.specs.Prelude.{ℕ, ◌+◌, ◌*◌, Bool, cond, ◌&&◌, List, ◌++◌, map, eqb, leb, ltb, ℤ, pos, nat_abs, length, take, drop, get_or}
 use Rattle.std.specs.Prelude.{if◌then◌else◌}
-use Rattle.packs.specs.declared.Outcome.{Outcome}
-use Rattle.packs.specs.declared.Outcome.TheVariants.{Done, Refused as Refuses}
+use Rattle.std.specs.Prelude.{Ok, Err}
+use Rattle.refusals.specs.declared.Refusal.TheVariants.{BadProposal}
+use Rattle.packs.specs.Reading.{Outcome}
 use Rattle.jobs.specs.Job.{Job}
-use Rattle.measure.specs.declared.check.Verdict.{Verdict}
-use Rattle.measure.specs.declared.check.Verdict.TheVariants.{Accepted, Refused}
-use Rattle.measure.specs.Check.{lowest_failing, verdict_for}
+use Rattle.measure.specs.Check.{Verdict, lowest_failing, verdict_for}
 use Rattle.slots.specs.Slots.{head_size, values_end, has_job, lowest, at_slot}
-use Rattle.checked.specs.Answers.{Reply, refusal}
+use Rattle.checked.specs.Answers.{Reply, refusal, refused}
 
 -- ---- kept numbers
 
@@ -30,7 +29,7 @@ lowest_above most numbers = lowest_failing (up_to most numbers) (length numbers)
 -- "6 for a kept number not allowed, place its word within the place": the numbers start at that word
 abbrev pub or_six : (first most : ℕ) → (numbers : List ℕ) → Verdict → Verdict
 or_six first most numbers later =
-    if ltb (lowest_above most numbers) (length numbers) then Refused 6 (first + lowest_above most numbers) else later
+    if ltb (lowest_above most numbers) (length numbers) then Err (BadProposal (first + lowest_above most numbers)) else later
 
 -- the words of a proposal with those values and multipliers
 abbrev pub proposal_of : (values multipliers : List ℕ) → List ℤ
@@ -45,11 +44,11 @@ kept_verdict j values multipliers =
 
 -- done with the verdict's F and G, where the output has room for the values
 abbrev pub handed : (room : ℕ) → (values : List ℕ) → Verdict → Reply
-handed room values (Accepted F G) =
+handed room values (Ok f) =
     cond (leb (length values) room)
-    (record { answer = record { number = 0; place = length values; loss = nat_abs F; gap = nat_abs G }; values = values })
+    (record { answer = record { number = 0; place = length values; loss = nat_abs f.loss; gap = nat_abs f.gap }; values = values })
     (refusal 13 (length values))
-handed room values (Refused number place) = refusal number place
+handed room values (Err r) = refused r
 
 -- "12 also when the kept cell or link count differs from the job's"
 abbrev pub same_counts : Job → (cells links : ℕ) → Bool
@@ -82,5 +81,5 @@ fetch_in w c j room s = at_slot (lowest (has_job j.number) w c s) (λ p. fetch_a
 
 -- "fetch gives 01's 1 to 5 before 12": a pack that does not read is its refusal
 abbrev pub on_job : Outcome → Reply → Reply
-on_job (Done k) reply = reply
-on_job (Refuses number place) reply = refusal number place
+on_job (Ok k) reply = reply
+on_job (Err r) reply = refused r

@@ -1,12 +1,20 @@
--- What functions inside a keep and inside a fetch count on.
-use Rattle.std.specs.Prelude.{ℕ, ◌≤◌, ◌<◌, ◌≡◌, true, List, ℤ, length}
+-- What functions inside a call count on, and what they answer.
+use Rattle.std.specs.Prelude.{ℕ, ◌≤◌, ◌<◌, ◌≡◌, true, Result, Ok, Err, List, ℤ, length}
 use Rattle.jobs.specs.Words.{count_at, cells_of, links_of, job_of}
 use Rattle.jobs.specs.Allowed.{Allowed, Laid}
 use Rattle.slots.specs.Slots.{slot_of}
+use Rattle.refusals.specs.declared.Refusal.{Refusal}
+use Rattle.checked.specs.declared.Answer.{Answer}
+use Rattle.checked.specs.Answers.{refused}
 use Rattle.checked.specs.Checked.{taken_from}
 use Rattle.checked.specs.Given.{Wordlike}
 use Rattle.shelf.specs.Fetched.{up_to, most_value, most_multiplier}
 use Rattle.shelf.specs.Shelf.{Layout, kept_on}
+
+-- What is answered to a call, done or refused.
+abbrev pub told : Result Answer Refusal → Answer
+told (Ok answer) = answer
+told (Err r) = (refused r).answer
 
 -- ---- a keep
 -- The numbers of a proposal: n values, and then so many multipliers.

@@ -1,18 +1,21 @@
 // Keeping an accepted table: the check's verdict, then what the two packs name, then the society's slots.
 ghost use Rattle.std.specs.Prelude.{◌≡◌, ◌++◌, ◌≤◌, nat_abs, length, drop};
-ghost use Rattle.checked.specs.Checked.{taken_from, checked_of};
+ghost use Rattle.checked.specs.Checked.{taken_from};
 ghost use Rattle.counts.specs.Counts.{Ready};
-ghost use Rattle.shelf.specs.Shelf.{layout_in, kept_shelf, keep_reply};
+ghost use Rattle.shelf.specs.Shelf.{layout_in};
 ghost use Rattle.checked.specs.Given.{JobWords, Wordlike, Given};
-ghost use Rattle.shelf.specs.Given.{Rated, kept_from, table_kept};
+ghost use Rattle.shelf.specs.Calls.{own, keep, said, after};
+ghost use Rattle.shelf.specs.Given.{told, Rated, kept_from, table_kept};
 
 use crate::societies::keep_society;
-use checked::{Answer, count_at, plain};
+use checked::{Answer, count_at};
+use counts::test_shelf;
 use jobs::job::JOB_WORDS;
 use jobs::proposal::PROPOSAL_WORDS;
 use jobs::words::links_at;
-use measure::check::{Verdict, check_into};
+use measure::check::{Figures, check_into};
 use numbers::zigzag::size_of;
+use refusals::Refusal;
 
 // n numbers from the number a on, as words of a slot.
 fn copy_rates(rates: &[i64], a: usize, n: usize, values: &mut [u32])
@@ -54,36 +57,34 @@ fn keep_rates(
     );
 }
 
-// Keep a table that the check has accepted with that loss and gap: the numbers of a proposal, for a job's words.
-fn keep_table(shelf: &mut [u32], words: &[i64], rates: &[i64], loss: i64, gap: i64) -> Answer
+// Keep a table that the check has accepted with those figures: the numbers of a proposal, for a job's words.
+fn keep_table(shelf: &mut [u32], words: &[i64], rates: &[i64], figures: Figures) -> Answer
     requires { Ready shelf.old × Given words.now rates.now }
-    ensures answer { result ≡ record { number = 0; place = 0; loss = nat_abs loss; gap = nat_abs gap } }
-    ensures shelf { shelf.new ≡ table_kept (layout_in shelf.old) words.now (nat_abs loss) (nat_abs gap) rates.now shelf.old }
+    ensures answer { result ≡ record { number = 0; place = 0; loss = nat_abs figures.loss; gap = nat_abs figures.gap } }
+    ensures shelf { shelf.new ≡ table_kept (layout_in shelf.old) words.now (nat_abs figures.loss) (nat_abs figures.gap) rates.now shelf.old }
 {
-    let f = size_of(loss);
-    let g = size_of(gap);
+    let loss = size_of(figures.loss);
+    let gap = size_of(figures.gap);
     let n = count_at(words, 2) as usize;
     let at = links_at(words, n);
     let links = count_at(words, at) as usize;
-    keep_rates(shelf, words, rates, n, links, f, g);
+    keep_rates(shelf, words, rates, n, links, loss, gap);
     Answer {
         number: 0,
         place: 0,
-        loss: f,
-        gap: g,
+        loss,
+        gap,
     }
 }
 
-// Check the proposal, and keep its table where it is accepted.
-pub fn keep_checked(shelf: &mut [u32], job: &[u8], proposal: &[u8]) -> Answer
-    requires { Ready shelf.old }
-    ensures answer { result ≡ (keep_reply (checked_of job.now proposal.now)).answer }
-    ensures shelf { shelf.new ≡ kept_shelf (layout_in shelf.old) (checked_of job.now proposal.now) shelf.old }
+// Check the proposal and, on a shelf that passes its test, keep its table where it is accepted.
+pub fn keep_checked(shelf: &mut [u32], job: &[u8], proposal: &[u8]) -> Result<Answer, Refusal>
+    ensures answer { told result ≡ (said shelf.old (own (keep job.now proposal.now))).answer }
+    ensures shelf { shelf.new ≡ after shelf.old (own (keep job.now proposal.now)) }
 {
+    test_shelf(shelf)?;
     let mut words = [0i64; JOB_WORDS];
     let mut rates = [0i64; PROPOSAL_WORDS];
-    match check_into(job, proposal, &mut words, &mut rates) {
-        Verdict::Accepted { loss, gap } => keep_table(shelf, &words, &rates, loss, gap),
-        Verdict::Refused { number, place } => plain(number, place as u64),
-    }
+    let figures = check_into(job, proposal, &mut words, &mut rates)?;
+    Ok(keep_table(shelf, &words, &rates, figures))
 }

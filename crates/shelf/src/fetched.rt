@@ -6,31 +6,33 @@ ghost use Rattle.slots.specs.Slots.{slot_words};
 ghost use Rattle.checked.specs.Answers.{overwritten};
 ghost use Rattle.counts.specs.Counts.{Ready};
 ghost use Rattle.shelf.specs.Fetched.{fetch_at, fetch_in};
-ghost use Rattle.shelf.specs.Shelf.{layout_in, fetch_from, fetch_reply};
+ghost use Rattle.shelf.specs.Calls.{own, fetch, said};
+ghost use Rattle.shelf.specs.Given.{told};
+ghost use Rattle.shelf.specs.Shelf.{layout_in, fetch_from};
 
 use crate::kept::fetch_kept;
-use checked::{Answer, count_at, plain};
-use counts::span_of;
+use checked::{Answer, count_at};
+use counts::{span_of, test_shelf};
 use fields::Field;
 use jobs::job::JOB_WORDS;
 use jobs::words;
-use packs::Outcome;
+use refusals::Refusal;
 use slots::search::find_job;
 use slots::{HEAD, SLOT_WORDS, VALUES_END};
 
 // The table of the slot that begins at the word `at`, for a job's words.
-fn fetch_at(span: &[u32], at: usize, words: &[i64], out: &mut [u32]) -> Answer
+fn fetch_at(span: &[u32], at: usize, words: &[i64], out: &mut [u32]) -> Result<Answer, Refusal>
     requires { (at + slot_words ≤ length span.now) × (Allowed (job_of words.now) × Laid words.now) }
-    ensures answer { result ≡ (fetch_at (job_of words.now) (length out.old) (drop at span.now)).answer }
+    ensures answer { told result ≡ (fetch_at (job_of words.now) (length out.old) (drop at span.now)).answer }
     ensures output { out.new ≡ overwritten out.old (fetch_at (job_of words.now) (length out.old) (drop at span.now)).values }
 {
     let n = words::cells_of(words);
     let links = words::links_of(words, n);
     if span[at] as usize != n {
-        return plain(12, 0);
+        return Err(Refusal::NothingKept);
     }
     if span[at + 6] as usize != links {
-        return plain(12, 0);
+        return Err(Refusal::NothingKept);
     }
     let a = at + HEAD;
     let b = a + n;
@@ -40,22 +42,22 @@ fn fetch_at(span: &[u32], at: usize, words: &[i64], out: &mut [u32]) -> Answer
 }
 
 // The table of the lowest slot with the job's number.
-fn fetch_in(span: &[u32], count: usize, words: &[i64], out: &mut [u32]) -> Answer
+fn fetch_in(span: &[u32], count: usize, words: &[i64], out: &mut [u32]) -> Result<Answer, Refusal>
     requires { (length span.now ≡ slot_words * count) × (Allowed (job_of words.now) × Laid words.now) }
-    ensures answer { result ≡ (fetch_in slot_words count (job_of words.now) (length out.old) span.now).answer }
+    ensures answer { told result ≡ (fetch_in slot_words count (job_of words.now) (length out.old) span.now).answer }
     ensures output { out.new ≡ overwritten out.old (fetch_in slot_words count (job_of words.now) (length out.old) span.now).values }
 {
     let number = count_at(words, 1);
     let Some(p) = find_job(span, count, number as u32) else {
-        return plain(12, 0);
+        return Err(Refusal::NothingKept);
     };
     fetch_at(span, SLOT_WORDS * p, words, out)
 }
 
 // The same, from the span of the society that the job names.
-fn fetch_society(shelf: &[u32], words: &[i64], out: &mut [u32]) -> Answer
+fn fetch_society(shelf: &[u32], words: &[i64], out: &mut [u32]) -> Result<Answer, Refusal>
     requires { Ready shelf.now × (Allowed (job_of words.now) × Laid words.now) }
-    ensures answer { result ≡ (fetch_from (layout_in shelf.now) (job_of words.now) (length out.old) shelf.now).answer }
+    ensures answer { told result ≡ (fetch_from (layout_in shelf.now) (job_of words.now) (length out.old) shelf.now).answer }
     ensures output { out.new ≡ overwritten out.old (fetch_from (layout_in shelf.now) (job_of words.now) (length out.old) shelf.now).values }
 {
     let society = count_at(words, 0);
@@ -66,23 +68,21 @@ fn fetch_society(shelf: &[u32], words: &[i64], out: &mut [u32]) -> Answer
 }
 
 // The same, for a job that stands in the first k words.
-fn fetch_part(shelf: &[u32], words: &[i64], k: usize, out: &mut [u32]) -> Answer
+fn fetch_part(shelf: &[u32], words: &[i64], k: usize, out: &mut [u32]) -> Result<Answer, Refusal>
     requires { Ready shelf.now × (k ≤ length words.now) × (Allowed (job_of (take k words.now)) × Laid (take k words.now)) }
-    ensures answer { result ≡ (fetch_from (layout_in shelf.now) (job_of (take k words.now)) (length out.old) shelf.now).answer }
+    ensures answer { told result ≡ (fetch_from (layout_in shelf.now) (job_of (take k words.now)) (length out.old) shelf.now).answer }
     ensures output { out.new ≡ overwritten out.old (fetch_from (layout_in shelf.now) (job_of (take k words.now)) (length out.old) shelf.now).values }
 {
     fetch_society(shelf, &words[..k], out)
 }
 
 // The table that is kept under a job pack's number, where it is accepted for that job.
-pub fn fetch_pack(shelf: &[u32], job: &[u8], out: &mut [u32]) -> Answer
-    requires { Ready shelf.now }
-    ensures answer { result ≡ (fetch_reply (layout_in shelf.now) job.now (length out.old) shelf.now).answer }
-    ensures output { out.new ≡ overwritten out.old (fetch_reply (layout_in shelf.now) job.now (length out.old) shelf.now).values }
+pub fn fetch_pack(shelf: &[u32], job: &[u8], out: &mut [u32]) -> Result<Answer, Refusal>
+    ensures answer { told result ≡ (said shelf.now (own (fetch job.now (length out.old)))).answer }
+    ensures output { out.new ≡ overwritten out.old (said shelf.now (own (fetch job.now (length out.old)))).values }
 {
+    test_shelf(shelf)?;
     let mut words = [0i64; JOB_WORDS];
-    match packs::reading::read(job, Field::Society, &mut words) {
-        Outcome::Done(k) => fetch_part(shelf, &words, k, out),
-        Outcome::Refused(number, place) => plain(number, place as u64),
-    }
+    let k = packs::reading::read(job, Field::Society, &mut words)?;
+    fetch_part(shelf, &words, k, out)
 }

@@ -1,17 +1,17 @@
 // The check of kept values and multipliers against a job's words (document 02, W-203), and what a fetch then answers.
-ghost use Rattle.std.specs.Prelude.{◌≡◌, ◌++◌, map, ◌+◌, ◌≤◌, pos, length, drop};
+ghost use Rattle.std.specs.Prelude.{◌≡◌, ◌++◌, map, ◌+◌, ◌≤◌, pos, length, drop, Ok};
 ghost use Rattle.jobs.specs.Words.{job_of};
-ghost use Rattle.measure.specs.declared.check.Verdict.TheVariants.{Accepted};
 ghost use Rattle.checked.specs.Answers.{overwritten};
 ghost use Rattle.measure.specs.Check.{verdict_for};
 ghost use Rattle.shelf.specs.Fetched.{lowest_above, proposal_of, kept_verdict, handed};
-ghost use Rattle.shelf.specs.Given.{Fetching, Judging};
+ghost use Rattle.shelf.specs.Given.{told, Fetching, Judging};
 
-use checked::{Answer, plain};
+use checked::Answer;
 use fields::limits::{MULTIPLIER, RATE};
 use jobs::proposal::PROPOSAL_WORDS;
-use measure::check::{Verdict, check_first};
+use measure::check::{Figures, Verdict, check_first};
 use numbers::zigzag::size_of;
+use refusals::Refusal;
 use slots::{HEAD, VALUES_END};
 
 // The lowest of the numbers that is above `most`, or their count.
@@ -62,49 +62,46 @@ fn kept_verdict(words: &[i64], values: &[u32], multipliers: &[u32]) -> Verdict
 {
     let cell = lowest_above(values, RATE);
     if cell < values.len() {
-        return Verdict::Refused {
-            number: 6,
-            place: HEAD + cell,
-        };
+        return Err(Refusal::BadProposal(HEAD + cell));
     }
     let link = lowest_above(multipliers, MULTIPLIER);
     if link < multipliers.len() {
-        return Verdict::Refused {
-            number: 6,
-            place: VALUES_END + link,
-        };
+        return Err(Refusal::BadProposal(VALUES_END + link));
     }
     judge(words, values, multipliers)
 }
 
 // The values of an accepted table, to the output.
-fn hand_out(values: &[u32], loss: i64, gap: i64, out: &mut [u32]) -> Answer
-    ensures answer { result ≡ (handed (length out.old) values.now (Accepted loss gap)).answer }
-    ensures output { out.new ≡ overwritten out.old (handed (length out.old) values.now (Accepted loss gap)).values }
+fn hand_out(values: &[u32], figures: Figures, out: &mut [u32]) -> Result<Answer, Refusal>
+    ensures answer { told result ≡ (handed (length out.old) values.now (Ok figures)).answer }
+    ensures output { out.new ≡ overwritten out.old (handed (length out.old) values.now (Ok figures)).values }
 {
     let n = values.len();
     if out.len() < n {
-        return plain(13, n as u64);
+        return Err(Refusal::NoRoom(n));
     }
-    let f = size_of(loss);
-    let g = size_of(gap);
+    let loss = size_of(figures.loss);
+    let gap = size_of(figures.gap);
     out[..n].copy_from_slice(values);
-    Answer {
+    Ok(Answer {
         number: 0,
         place: n as u64,
-        loss: f,
-        gap: g,
-    }
+        loss,
+        gap,
+    })
 }
 
 // What a fetch answers to kept numbers of as many cells and links as the job has.
-pub fn fetch_kept(words: &[i64], values: &[u32], multipliers: &[u32], out: &mut [u32]) -> Answer
+pub fn fetch_kept(
+    words: &[i64],
+    values: &[u32],
+    multipliers: &[u32],
+    out: &mut [u32],
+) -> Result<Answer, Refusal>
     requires { Fetching words.now values.now multipliers.now }
-    ensures answer { result ≡ (handed (length out.old) values.now (kept_verdict (job_of words.now) values.now multipliers.now)).answer }
+    ensures answer { told result ≡ (handed (length out.old) values.now (kept_verdict (job_of words.now) values.now multipliers.now)).answer }
     ensures output { out.new ≡ overwritten out.old (handed (length out.old) values.now (kept_verdict (job_of words.now) values.now multipliers.now)).values }
 {
-    match kept_verdict(words, values, multipliers) {
-        Verdict::Accepted { loss, gap } => hand_out(values, loss, gap, out),
-        Verdict::Refused { number, place } => plain(number, place as u64),
-    }
+    let figures = kept_verdict(words, values, multipliers)?;
+    hand_out(values, figures, out)
 }

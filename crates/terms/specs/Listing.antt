@@ -1,19 +1,17 @@
 -- Document 02, W-202, as read: the terms of the gap handed out, "three words a place, cells first, then links".
 use Rattle.std.specs.Prelude.{ℕ, zero, suc, ◌+◌, ◌*◌, List, [], ◌∷◌, ◌++◌, eqb, ltb, ℤ, pos}
 use Rattle.std.specs.Prelude.{if◌then◌else◌}
-use Rattle.packs.specs.declared.Outcome.{Outcome}
-use Rattle.packs.specs.declared.Outcome.TheVariants.{Done, Refused as Refuses}
-use Rattle.packs.specs.Reading.{Ran}
+use Rattle.packs.specs.Reading.{Outcome, Ran}
 use Rattle.jobs.specs.Job.{Job}
 use Rattle.jobs.specs.Words.{job_of}
 use Rattle.jobs.specs.Packs.{handed_out, read_job, read_proposal}
 use Rattle.tally.specs.declared.term.Supplied.{Supplied}
 use Rattle.tally.specs.declared.term.Supplied.TheVariants.{ByBox, ByWeight}
-use Rattle.measure.specs.declared.check.Verdict.{Verdict}
-use Rattle.measure.specs.declared.check.Verdict.TheVariants.{Accepted, Refused}
 use Rattle.measure.specs.Gap.{residual_of, supplied_of}
 use Rattle.measure.specs.Largest.{term_at}
-use Rattle.measure.specs.Check.{values_of, multipliers_of, check_of}
+use Rattle.measure.specs.Check.{Verdict, values_of, multipliers_of, check_of}
+use Rattle.std.specs.Prelude.{Ok, Err}
+use Rattle.refusals.specs.Refusals.{number_of}
 
 -- "side (0 box, 1 weight, 2 link)"
 abbrev pub side_of : Supplied → ℤ
@@ -38,8 +36,8 @@ entries j v y (suc k) = entries j v y k ++ entry_at j v y k
 
 -- "It refuses with … 1 to 8 …; 9 is no refusal there": as the check does. "Done: place the words written".
 abbrev pub end_of : (count : ℕ) → Verdict → Outcome
-end_of count (Accepted F G) = Done count
-end_of count (Refused number place) = if eqb number 9 then Done count else Refuses number place
+end_of count (Ok figures) = Ok count
+end_of count (Err r) = if eqb (number_of r) 9 then Ok count else Err r
 
 -- The list of a proposal's words that the check has judged, for a lender with room for so many: 13 for too little comes last, and a refusal hands out
 -- nothing.

@@ -12,19 +12,16 @@ ghost use Rattle.terms.specs.Listing.{terms_of};
 use crate::listing::list_parts;
 use jobs::job::JOB_WORDS;
 use jobs::proposal::PROPOSAL_WORDS;
-use measure::opening::{Opened, open_both};
-use packs::Outcome;
+use measure::opening::open_both;
+use refusals::Refusal;
 
 // The terms of a proposal pack against a job pack: refused as the check refuses, but not with 9, and with 13 where there is no room. A refusal writes
 // nothing.
-pub fn list_terms(job: &[u8], proposal: &[u8], out: &mut [i64]) -> Outcome
+pub fn list_terms(job: &[u8], proposal: &[u8], out: &mut [i64]) -> Result<usize, Refusal>
     ensures { Hands (terms_of (length out.old) job.now proposal.now) out.old result out.new }
 {
     let mut words = [0i64; JOB_WORDS];
     let mut values = [0i64; PROPOSAL_WORDS];
-    let opened = open_both(job, proposal, &mut words, &mut values);
-    match opened {
-        Opened::Both(k, m) => list_parts(&words, k, &values, m, out),
-        Opened::Unread(number, place) => Outcome::Refused(number, place),
-    }
+    let counts = open_both(job, proposal, &mut words, &mut values)?;
+    list_parts(&words, counts.words, &values, counts.values, out)
 }

@@ -1,7 +1,6 @@
 // The words of all places of a table: its cells, then its links, once it is known that it meets its job and that there is room.
 ghost use Rattle.std.specs.Prelude.{◌≡◌, ◌+◌, ◌*◌, ◌≤◌, pos, length, take};
 ghost use Rattle.std.proofs.lemmas.List.Edits.{sets};
-ghost use Rattle.packs.specs.declared.Outcome.TheVariants.{Done};
 ghost use Rattle.packs.specs.Reading.{Hands};
 ghost use Rattle.jobs.specs.Words.{cells_of, links_of, job_of};
 ghost use Rattle.jobs.specs.Packs.{handed_out};
@@ -14,10 +13,9 @@ ghost use Rattle.terms.specs.Steps.{entries_on, Longer};
 
 use crate::entries::{BY_LINK, PLACE_WORDS, put_cell, put_entry};
 use jobs::words;
-use measure::links::Walked;
 use measure::meeting::meet;
 use measure::{gap, links, residual, smooth};
-use packs::Outcome;
+use refusals::Refusal;
 use tally::term;
 
 // The words of all cells; `parts` holds what links and differences add to their residuals.
@@ -55,37 +53,40 @@ fn list_all(
     n: usize,
     parts: &mut [i64],
     out: &mut [i64],
-) -> Outcome
+) -> Result<usize, Refusal>
     requires { Parted words.now proposal.now n parts.old }
-    ensures { Hands (handed_out (length out.old) (entries_on words.now proposal.now (cells_of words.now + links_of words.now)) (Done (3 * (cells_of words.now + links_of words.now)))) out.old result out.new × Added (smooth_on words.now proposal.now) parts.old parts.new }
+    ensures { Hands (handed_out (length out.old) (entries_on words.now proposal.now (cells_of words.now + links_of words.now)) (Ok (3 * (cells_of words.now + links_of words.now)))) out.old result out.new × Added (smooth_on words.now proposal.now) parts.old parts.new }
 {
     smooth::smoothed(words, proposal, n, parts);
     let count = words::links_of(words, n);
     let k = PLACE_WORDS * (n + count);
     if out.len() < k {
-        return Outcome::Refused(13, k);
+        return Err(Refusal::NoRoom(k));
     }
     list_cells(words, proposal, n, parts, out);
     list_links(words, proposal, n, count, out);
-    Outcome::Done(k)
+    Ok(k)
 }
 
 // The words of a table, or the refusal of one that does not meet its job.
-fn list_table(words: &[i64], proposal: &[i64], out: &mut [i64]) -> Outcome
+fn list_table(words: &[i64], proposal: &[i64], out: &mut [i64]) -> Result<usize, Refusal>
     requires { Given words.now proposal.now }
     ensures { Hands (list_for (length out.old) (job_of words.now) proposal.now (verdict_for (job_of words.now) proposal.now)) out.old result out.new }
 {
     let n = words::cells_of(words);
     let mut parts = [0i64; 120];
-    let walked = meet(words, proposal, n, &mut parts);
-    match walked {
-        Walked::Unmet(number, place) => Outcome::Refused(number, place),
-        Walked::Held(_) => list_all(words, proposal, n, &mut parts, out),
-    }
+    meet(words, proposal, n, &mut parts)?;
+    list_all(words, proposal, n, &mut parts, out)
 }
 
 // The same for a job in the first k words and a proposal in the first m.
-pub fn list_parts(words: &[i64], k: usize, proposal: &[i64], m: usize, out: &mut [i64]) -> Outcome
+pub fn list_parts(
+    words: &[i64],
+    k: usize,
+    proposal: &[i64],
+    m: usize,
+    out: &mut [i64],
+) -> Result<usize, Refusal>
     requires { (k ≤ length words.now) × (m ≤ length proposal.now) × Given (take k words.now) (take m proposal.now) }
     ensures { Hands (list_for (length out.old) (job_of (take k words.now)) (take m proposal.now) (verdict_for (job_of (take k words.now)) (take m proposal.now))) out.old result out.new }
 {

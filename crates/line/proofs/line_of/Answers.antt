@@ -9,16 +9,16 @@ use borrow.Author.Rules.{rules}
 use Rattle.line.proofs.line_of.Goals as goal
 
 pub returns-then-input-gt-LIMIT : goal.returns-then-input-gt-LIMIT
-returns-then-input-gt-LIMIT c = let both = line_put c.args.input.now (printed 1 (8192 ∷ [])) (long_line c.args.input.now c.if-input-gt-LIMIT.true) (search rules) c.put_two.ensures in record { count = both.0; output = both.1 }
+returns-then-input-gt-LIMIT c = let both = line_put c.args.input.now (printed 1 (8192 ∷ [])) (long_line c.args.input.now c.if-input-gt-LIMIT.true) (search rules) c.put_refusal.ensures in record { count = both.0; output = both.1 }
 
 pub put_packs-requires : goal.put_packs-requires
 put_packs-requires c = let input = c.args.input.now in
-    (omega (arith, offset_after 9 input 0 c.in-Value.value c.in-Value.next (sym c.number_at-number.ensures ∙ c.in-Value.is)), search rules)
+    (omega (arith, offset_after 9 input 0 c.in-Some.size.value c.in-Some.size.next (sym c.number_at.ensures ∙ c.in-Some.is)), search rules)
 
-pub returns-in-Value : goal.returns-in-Value
-returns-in-Value c = let input = c.args.input.now in
-    let both = line_put input _ (read_line input c.if-input-gt-LIMIT.false (sym c.number_at-number.ensures ∙ c.in-Value.is)) (search rules) c.put_packs.ensures in record { count = both.0; output = both.1 }
+pub returns-in-Some : goal.returns-in-Some
+returns-in-Some c = let input = c.args.input.now in
+    let both = line_put input _ (read_line input c.if-input-gt-LIMIT.false (sym c.number_at.ensures ∙ c.in-Some.is)) (search rules) c.put_packs.ensures in record { count = both.0; output = both.1 }
 
-pub returns-in-Unreadable : goal.returns-in-Unreadable
-returns-in-Unreadable c = let input = c.args.input.now in
-    let both = line_put input _ (read_line input c.if-input-gt-LIMIT.false (sym c.number_at-number.ensures ∙ c.in-Unreadable.is)) (search rules) c.put_two-in-Unreadable.ensures in record { count = both.0; output = both.1 }
+pub returns-in-None : goal.returns-in-None
+returns-in-None c = let input = c.args.input.now in
+    let both = line_put input _ (read_line input c.if-input-gt-LIMIT.false (sym c.number_at.ensures ∙ c.in-None.is)) (search rules) c.put_refusal-in-None.ensures in record { count = both.0; output = both.1 }

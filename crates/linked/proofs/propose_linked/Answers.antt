@@ -1,6 +1,7 @@
 -- A job that is read has at most 2,092 words, so the scratch holds them all.
 use mathlib.Core.Path.{sym, ◌∙◌}
-use native.Mathlib.Omega.{arith}
+use Prim.Native.Nat.{◌≤◌}
+use borrow.Author.Rules.{rules}
 use lib.ListN.{length}
 use Rattle.jobs.proofs.Handed.{scratch_room}
 use Rattle.house.proofs.Handing.{part_known}
@@ -8,11 +9,14 @@ use Rattle.linked.proofs.Answering.{part_linked}
 use Rattle.linked.proofs.propose_linked.Goals as goal
 
 pub slice_bounds-propose_for-end : goal.slice_bounds-propose_for-end
-slice_bounds-propose_for-end c = scratch_room c.args.job.now (sym c.read-r.ensures.0 ∙ c.in-Done.is) c.read-r.ensures.1
+slice_bounds-propose_for-end c = scratch_room c.args.job.now (sym c.read.ensures.0 ∙ c.in_ok-k.was) c.read.ensures.1
 
 pub propose_for-requires : goal.propose_for-requires
-propose_for-requires c = (part_known c.args.job.now (sym c.read-r.ensures.0 ∙ c.in-Done.is) c.read-r.ensures.1, omega arith)
+propose_for-requires c = let few : c.args.passes ≤ 200 = search rules in
+    (part_known c.args.job.now (sym c.read.ensures.0 ∙ c.in_ok-k.was) c.read.ensures.1, few)
 
-pub returns-in-Done : goal.returns-in-Done
-returns-in-Done c = let read = c.read-r.ensures in
-    rw (← part_linked (length c.args.out.now) c.args.passes c.args.job.now (omega arith) (omega arith) (sym read.0 ∙ c.in-Done.is) read.1) c.propose_for.ensures
+pub returns : goal.returns
+returns c = let read = c.read.ensures in
+    let some : 1 ≤ c.args.passes = search rules in
+    let few : c.args.passes ≤ 200 = search rules in
+    rw (← part_linked (length c.args.out.now) c.args.passes c.args.job.now some few (sym read.0 ∙ c.in_ok-k.was) read.1) c.propose_for.ensures

@@ -1,20 +1,23 @@
 -- What was read of both packs is what is listed.
-use mathlib.Core.Path.{sym, ◌∙◌}
+use mathlib.Core.Path.{◌≡◌, sym, ◌∙◌}
 use lib.IntN.{pos}
 use lib.ListN.{replicate}
+use Rattle.std.specs.Prelude.{Err}
 use Rattle.jobs.specs.Packs.{read_job}
 use Rattle.measure.specs.Opening.{proposal_words}
 use Rattle.measure.proofs.Packed.{job_room, lent_length, parts_given, proposal_room}
+use borrow.Author.Rules.{rules}
 use Rattle.terms.proofs.Endings.{packs_listed, packs_unread}
 use Rattle.terms.proofs.list_terms.Goals as goal
 
 pub list_parts-requires : goal.list_parts-requires
-list_parts-requires c = let w = lent_length 2092 (read_job c.args.job.now).words c.open_both-opened.new.words c.open_both-opened.ensures.1 in let v = lent_length 280 (proposal_words c.args.job.now c.args.proposal.now) c.open_both-opened.new.values c.open_both-opened.ensures.2 in
-    (job_room c.args.job.now c.args.proposal.now (sym c.open_both-opened.ensures.0 ∙ c.in-Both.is) (sym w) (replicate 2092 (pos 0)) c.open_both-opened.ensures.1 (sym v) (replicate 280 (pos 0)) c.open_both-opened.ensures.2, proposal_room c.args.job.now c.args.proposal.now (sym c.open_both-opened.ensures.0 ∙ c.in-Both.is) (sym w) (replicate 2092 (pos 0)) c.open_both-opened.ensures.1 (sym v) (replicate 280 (pos 0)) c.open_both-opened.ensures.2, parts_given c.args.job.now c.args.proposal.now (sym c.open_both-opened.ensures.0 ∙ c.in-Both.is) (sym w) (replicate 2092 (pos 0)) c.open_both-opened.ensures.1 (sym v) (replicate 280 (pos 0)) c.open_both-opened.ensures.2)
+list_parts-requires c = let w = lent_length 2092 (read_job c.args.job.now).words c.open_both.new.words c.open_both.ensures.1 in let v = lent_length 280 (proposal_words c.args.job.now c.args.proposal.now) c.open_both.new.values c.open_both.ensures.2 in
+    (job_room c.args.job.now c.args.proposal.now (sym c.open_both.ensures.0 ∙ c.in_ok-counts.was) (sym w) (replicate 2092 (pos 0)) c.open_both.ensures.1 (sym v) (replicate 280 (pos 0)) c.open_both.ensures.2, proposal_room c.args.job.now c.args.proposal.now (sym c.open_both.ensures.0 ∙ c.in_ok-counts.was) (sym w) (replicate 2092 (pos 0)) c.open_both.ensures.1 (sym v) (replicate 280 (pos 0)) c.open_both.ensures.2, parts_given c.args.job.now c.args.proposal.now (sym c.open_both.ensures.0 ∙ c.in_ok-counts.was) (sym w) (replicate 2092 (pos 0)) c.open_both.ensures.1 (sym v) (replicate 280 (pos 0)) c.open_both.ensures.2)
 
-pub returns-in-Both : goal.returns-in-Both
-returns-in-Both c = let w = lent_length 2092 (read_job c.args.job.now).words c.open_both-opened.new.words c.open_both-opened.ensures.1 in let v = lent_length 280 (proposal_words c.args.job.now c.args.proposal.now) c.open_both-opened.new.values c.open_both-opened.ensures.2 in
-    packs_listed c.args.job.now c.args.proposal.now (sym c.open_both-opened.ensures.0 ∙ c.in-Both.is) (sym w) (replicate 2092 (pos 0)) c.open_both-opened.ensures.1 (sym v) (replicate 280 (pos 0)) c.open_both-opened.ensures.2 c.args.out.now c.list_parts.ensures
+pub returns-in_err-counts : goal.returns-in_err-counts
+returns-in_err-counts c = let e : c.from_residual.result ≡ Err c.in_err-counts.field-0.0 = search rules in
+    let H = packs_unread c.args.job.now c.args.proposal.now (sym c.open_both.ensures.0 ∙ c.in_err-counts.was) c.args.out.now in (e ∙ H.0, H.1)
 
-pub returns-in-Unread : goal.returns-in-Unread
-returns-in-Unread c = packs_unread c.args.job.now c.args.proposal.now (sym c.open_both-opened.ensures.0 ∙ c.in-Unread.is) c.args.out.now
+pub returns : goal.returns
+returns c = let w = lent_length 2092 (read_job c.args.job.now).words c.open_both.new.words c.open_both.ensures.1 in let v = lent_length 280 (proposal_words c.args.job.now c.args.proposal.now) c.open_both.new.values c.open_both.ensures.2 in
+    packs_listed c.args.job.now c.args.proposal.now (sym c.open_both.ensures.0 ∙ c.in_ok-counts.was) (sym w) (replicate 2092 (pos 0)) c.open_both.ensures.1 (sym v) (replicate 280 (pos 0)) c.open_both.ensures.2 c.args.out.now c.list_parts.ensures

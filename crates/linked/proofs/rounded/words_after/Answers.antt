@@ -18,7 +18,7 @@ loop-at-preserved c = let a = c.args in
     let count = a.n + a.links in
     let at = c.loop-at.at in
     let made = c.loop-at.made in ap (λ (x : ℤ). filled (multipliers y a.n) (count - (at + 1)) (at + 1) (set made at x)) (gives c.multiplier_word.ensures (small_fits (multipliers y a.n at) (multiplier_small (get_or y (at - a.n) nan)) (lit< tt)))
-          ∙ sym (filled_more (multipliers y a.n) at count made (omega arith)) ∙ c.loop-at.invariant
+    ∙ sym (filled_more (multipliers y a.n) at count made (omega arith)) ∙ c.loop-at.invariant
 
 pub returns : goal.returns
 returns c = let a = c.args in

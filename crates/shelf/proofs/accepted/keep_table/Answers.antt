@@ -2,8 +2,7 @@
 use mathlib.Core.Path.{◌≡◌, sym, ap, ap₂, ◌∙◌, subst}
 use Prim.Native.Nat.{ℕ, ◌≤◌}
 use native.Mathlib.Omega.{arith}
-use lib.IntN.{ℤ, nat_abs}
-use mir.Facts.{to_z-of_z}
+use lib.IntN.{nat_abs}
 use Rattle.jobs.specs.Words.{count_at, links_of}
 use Rattle.jobs.proofs.Places.{head_few}
 use Rattle.checked.specs.declared.Answer.{Answer}
@@ -41,10 +40,10 @@ returns c = let a = c.args in
     let shelf = a.shelf.now in
     let n = c.count_at-n in
     let links = c.count_at-links in
-    let F = c.size_of-f in
-    let G = c.size_of-g in
-    let f = F.ensures ∙ ap (λ (z : ℤ). nat_abs z) (to_z-of_z c.ranges.loss) in
-    let g = G.ensures ∙ ap (λ (z : ℤ). nat_abs z) (to_z-of_z c.ranges.gap) in
+    let F = c.size_of-loss in
+    let G = c.size_of-gap in
+    let f : F.result ≡ nat_abs a.figures.loss = search rules in
+    let g : G.result ≡ nat_abs a.figures.gap = search rules in
     let el : links.result ≡ links_of words = links.ensures ∙ ap (count_at words) (c.links_at-at.ensures ∙ links_place words n.ensures) in
     record {
       answer = ap₂ {C = Answer} (λ (x y : ℕ). record { number = 0; place = 0; loss = x; gap = y }) f g;

@@ -7,6 +7,7 @@ use borrow.Rule.Slice.PartMut.{mid_len}
 use Rattle.jobs.specs.Words.{job_of}
 use Rattle.slots.specs.Slots.{head_size, values_end}
 use Rattle.checked.specs.Answers.{Reply, refusal}
+use Rattle.shelf.specs.Given.{told}
 use Rattle.shelf.specs.Fetched.{kept_verdict, handed, fetch_at}
 use Rattle.shelf.proofs.Picked.{replied, cells_differ, links_differ, counts_same}
 use Rattle.shelf.proofs.fetched.fetch_at.Goals as goal
@@ -25,8 +26,8 @@ returns-then-span-at c = let a = c.args in
     let s = a.span.now in
     let o = a.out.now in
     let j = job_of a.words.now in
-    let both = replied (refusal 12 0) (fetch_at j (length o) (drop a.at s)) c.plain.result o o
-    (cells_differ j (length o) a.at s (λ e. c.if-span-at.true (e ∙ sym c.cells_of-n.ensures))) c.plain.ensures refl in record { answer = both.0; output = both.1 }
+    let both = replied (refusal 12 0) (fetch_at j (length o) (drop a.at s)) (refusal 12 0).answer o o
+    (cells_differ j (length o) a.at s (λ e. c.if-span-at.true (e ∙ sym c.cells_of-n.ensures))) refl refl in record { answer = both.0; output = both.1 }
 
 pub overflow_cast-span-2 : goal.overflow_cast-span-2
 overflow_cast-span-2 c = record { fits = omega (arith, c.shared_slice_known-3-1.given (c.args.at + 6)) }
@@ -36,8 +37,8 @@ returns-then-span-at-2 c = let a = c.args in
     let s = a.span.now in
     let o = a.out.now in
     let j = job_of a.words.now in
-    let both = replied (refusal 12 0) (fetch_at j (length o) (drop a.at s)) c.plain-then-span-at-2.result o o
-    (links_differ j (length o) a.at s (λ e. c.if-span-at-2.true (e ∙ sym c.links_of-links.ensures))) c.plain-then-span-at-2.ensures refl in record { answer = both.0; output = both.1 }
+    let both = replied (refusal 12 0) (fetch_at j (length o) (drop a.at s)) (refusal 12 0).answer o o
+    (links_differ j (length o) a.at s (λ e. c.if-span-at-2.true (e ∙ sym c.links_of-links.ensures))) refl refl in record { answer = both.0; output = both.1 }
 
 pub overflow_add-b : goal.overflow_add-b
 overflow_add-b c = let A = c.requires.1.0 in omega (arith, A.cells_few, A.links_few, c.cells_of-n.ensures, c.links_of-links.ensures)
@@ -88,6 +89,6 @@ returns c = let got = c.fetch_kept in
     let d = a.at + values_end in
     let cut : b + n.result - b ≡ n.result = omega arith in
     let cut-links : d + links.result - d ≡ links.result = omega arith in
-    let both = replied (handed room (take (b + n.result - b) (drop b s)) (kept_verdict j (take (b + n.result - b) (drop b s)) (take (d + links.result - d) (drop d s)))) (fetch_at j room (drop a.at s)) got.result o got.new.out
+    let both = replied (handed room (take (b + n.result - b) (drop b s)) (kept_verdict j (take (b + n.result - b) (drop b s)) (take (d + links.result - d) (drop d s)))) (fetch_at j room (drop a.at s)) (told got.result) o got.new.out
     (ap₂ {C = Reply} (λ (x y : ℕ). handed room (take x (drop b s)) (kept_verdict j (take x (drop b s)) (take y (drop d s)))) cut cut-links
     ∙ counts_same j room a.at s n.result links.result n.ensures links.ensures c.if-span-at.false c.if-span-at-2.false) got.ensures.answer got.ensures.output in record { answer = both.0; output = both.1 }

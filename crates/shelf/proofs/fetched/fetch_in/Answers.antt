@@ -8,6 +8,7 @@ use Rattle.jobs.proofs.Places.{cells_inside}
 use Rattle.slots.specs.Slots.{slot_words, has_job, lowest}
 use Rattle.checked.specs.Answers.{refusal}
 use Rattle.std.specs.Prelude.{Option}
+use Rattle.shelf.specs.Given.{told}
 use Rattle.shelf.specs.Fetched.{fetch_at, fetch_in}
 use Rattle.slots.proofs.Sizes.{found_below}
 use Rattle.shelf.proofs.Picked.{replied, fetch_found, fetch_none}
@@ -39,7 +40,7 @@ returns c = let got = c.fetch_at in
     let j = job_of a.words.now in
     let p = c.in-Some.p in
     let e = sym (ap {B = Option ℕ} (λ (x : ℕ). lowest (has_job x) slot_words a.count s) c.count_at-number.ensures) ∙ sym c.find_job.ensures ∙ c.in-Some.is in
-    let both = replied (fetch_at j (length o) (drop (slot_words * p) s)) (fetch_in slot_words a.count j (length o) s) got.result o got.new.out
+    let both = replied (fetch_at j (length o) (drop (slot_words * p) s)) (fetch_in slot_words a.count j (length o) s) (told got.result) o got.new.out
     (fetch_found slot_words a.count j s (length o) p e) got.ensures.answer got.ensures.output in record { answer = both.0; output = both.1 }
 
 pub returns-in_default : goal.returns-in_default
@@ -48,4 +49,4 @@ returns-in_default c = let a = c.args in
     let o = a.out.now in
     let j = job_of a.words.now in
     let e = sym (ap {B = Option ℕ} (λ (x : ℕ). lowest (has_job x) slot_words a.count s) c.count_at-number.ensures) ∙ sym c.find_job.ensures ∙ c.in_default.is in
-    let both = replied (refusal 12 0) (fetch_in slot_words a.count j (length o) s) c.plain.result o o (fetch_none slot_words a.count j s (length o) e) c.plain.ensures refl in record { answer = both.0; output = both.1 }
+    let both = replied (refusal 12 0) (fetch_in slot_words a.count j (length o) s) (refusal 12 0).answer o o (fetch_none slot_words a.count j s (length o) e) refl refl in record { answer = both.0; output = both.1 }

@@ -1,32 +1,52 @@
--- A job that was read stands in the first k words; a pack that does not read is its refusal.
-use mathlib.Core.Path.{refl}
-use lib.IntN.{pos}
-use lib.ListN.{length, take, replicate, length-replicate}
+-- What the test of the shelf refuses is refused. Then a job that was read stands in the first k words, and a pack that does not read is its refusal.
+use Rattle.std.proofs.Common.{◌≡◌, Err, sym, ap, ◌∙◌, refl, rules, length, take, replicate, pos}
+use lib.ListN.{length-replicate}
 use Rattle.jobs.specs.Words.{job_of}
-use Rattle.checked.specs.Answers.{refusal}
-use Rattle.shelf.specs.Shelf.{layout_in, fetch_from, fetch_reply}
+use Rattle.checked.specs.declared.Answer.{Answer}
+use Rattle.checked.specs.Answers.{refused}
+use Rattle.counts.proofs.Tests.{passed_ready}
+use Rattle.shelf.specs.Given.{told}
+use Rattle.shelf.specs.Shelf.{layout_in, fetch_from}
+use Rattle.shelf.specs.Calls.{own, fetch, said}
 use Rattle.shelf.proofs.Picked.{replied}
+use Rattle.shelf.proofs.Answered.{said_passed, said_refused}
 use Rattle.shelf.proofs.Presented.{presented, fetch_read, fetch_unread}
 use Rattle.shelf.proofs.fetched.fetch_pack.Goals as goal
 
+pub returns-in_err-test_shelf : goal.returns-in_err-test_shelf
+returns-in_err-test_shelf c = let a = c.args in
+    let o = a.out.now in
+    let call = fetch a.job.now (length o) in
+    let r = c.in_err-test_shelf.field-0.0 in
+    let e : c.from_residual.result ≡ Err r = search rules in
+    let both = replied (refused r) (said a.shelf.now (own call)) (told c.from_residual.result) o o (said_refused a.shelf.now call r (sym c.test_shelf.ensures ∙ c.in_err-test_shelf.was)) (ap {B = Answer} told e) refl in
+    record { answer = both.0; output = both.1 }
+
+pub returns-in_err-k : goal.returns-in_err-k
+returns-in_err-k c = let a = c.args in
+    let o = a.out.now in
+    let call = fetch a.job.now (length o) in
+    let read = c.read in
+    let r = c.in_err-k.field-0.0 in
+    let e : c.from_residual-in_err-k.result ≡ Err r = search rules in
+    let both = replied (refused r) (said a.shelf.now (own call)) (told c.from_residual-in_err-k.result) o o
+    (fetch_unread a.job.now (replicate 2092 (pos 0)) (length-replicate 2092 (pos 0)) read.ensures.0 read.ensures.1 (layout_in a.shelf.now) (length o) a.shelf.now c.in_err-k.was
+    ∙ said_passed a.shelf.now call (sym c.test_shelf.ensures ∙ c.in_ok-test_shelf.was)) (ap {B = Answer} told e) refl in
+    record { answer = both.0; output = both.1 }
+
 pub fetch_part-requires : goal.fetch_part-requires
 fetch_part-requires c = let read = c.read in
-    let p = presented c.args.job.now (replicate 2092 (pos 0)) (length-replicate 2092 (pos 0)) read.ensures.0 read.ensures.1 (layout_in c.args.shelf.now) 0 c.args.shelf.now c.in-Done.is in
-    (c.requires, p.0, p.1)
+    let p = presented c.args.job.now (replicate 2092 (pos 0)) (length-replicate 2092 (pos 0)) read.ensures.0 read.ensures.1 (layout_in c.args.shelf.now) 0 c.args.shelf.now c.in_ok-k.was in
+    (passed_ready _ (sym c.test_shelf.ensures ∙ c.in_ok-test_shelf.was), p.0, p.1)
 
-pub returns-in-Done : goal.returns-in-Done
-returns-in-Done c = let got = c.fetch_part in
+pub returns : goal.returns
+returns c = let got = c.fetch_part in
     let a = c.args in
     let o = a.out.now in
+    let call = fetch a.job.now (length o) in
     let read = c.read in
-    let words = read.new.words in
-    let k = c.in-Done.k in
-    let both = replied (fetch_from (layout_in a.shelf.now) (job_of (take k words)) (length o) a.shelf.now) (fetch_reply (layout_in a.shelf.now) a.job.now (length o) a.shelf.now) got.result o got.new.out
-    (fetch_read a.job.now (replicate 2092 (pos 0)) (length-replicate 2092 (pos 0)) read.ensures.0 read.ensures.1 (layout_in a.shelf.now) (length o) a.shelf.now c.in-Done.is) got.ensures.answer got.ensures.output in record { answer = both.0; output = both.1 }
-
-pub returns-in-Refused : goal.returns-in-Refused
-returns-in-Refused c = let a = c.args in
-    let o = a.out.now in
-    let read = c.read in
-    let both = replied (refusal c.in-Refused.number c.in-Refused.place) (fetch_reply (layout_in a.shelf.now) a.job.now (length o) a.shelf.now) c.plain.result o o
-    (fetch_unread a.job.now (replicate 2092 (pos 0)) (length-replicate 2092 (pos 0)) read.ensures.0 read.ensures.1 (layout_in a.shelf.now) (length o) a.shelf.now c.in-Refused.is) c.plain.ensures refl in record { answer = both.0; output = both.1 }
+    let k = c.in_ok-k.k in
+    let both = replied (fetch_from (layout_in a.shelf.now) (job_of (take k read.new.words)) (length o) a.shelf.now) (said a.shelf.now (own call)) (told got.result) o got.new.out
+    (fetch_read a.job.now (replicate 2092 (pos 0)) (length-replicate 2092 (pos 0)) read.ensures.0 read.ensures.1 (layout_in a.shelf.now) (length o) a.shelf.now c.in_ok-k.was
+    ∙ said_passed a.shelf.now call (sym c.test_shelf.ensures ∙ c.in_ok-test_shelf.was)) got.ensures.answer got.ensures.output in
+    record { answer = both.0; output = both.1 }

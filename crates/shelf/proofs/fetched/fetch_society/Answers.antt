@@ -9,6 +9,7 @@ use Rattle.slots.specs.Slots.{slot_words}
 use Rattle.jobs.specs.Words.{job_of}
 use Rattle.jobs.proofs.Places.{cells_inside}
 use Rattle.checked.specs.Answers.{Reply}
+use Rattle.shelf.specs.Given.{told}
 use Rattle.shelf.specs.Fetched.{fetch_in}
 use Rattle.shelf.specs.Shelf.{layout_in, fetch_from}
 use Rattle.shelf.proofs.Picked.{replied}
@@ -32,5 +33,5 @@ returns c = let got = c.fetch_in in
     let starts : a ≡ l.start j.society = own.ensures.start ∙ ap (λ (x : ℕ). l.start x) society in
     let counts : own.result.count ≡ l.count j.society = own.ensures.count ∙ ap (λ (x : ℕ). l.count x) society in
     let span = lent_span l j.society shelf a e starts (own.ensures.end ∙ ap (λ (n : ℕ). a + slot_words * n) counts) c.requires.1.0.society in
-    let both = replied (fetch_in slot_words own.result.count j (length o) (mid_of a (e - a) shelf)) (fetch_from l j (length o) shelf) got.result o got.new.out
+    let both = replied (fetch_in slot_words own.result.count j (length o) (mid_of a (e - a) shelf)) (fetch_from l j (length o) shelf) (told got.result) o got.new.out
     (ap {B = Reply} (λ (n : ℕ). fetch_in slot_words n j (length o) (mid_of a (e - a) shelf)) counts ∙ ap {B = Reply} (λ (x : List ℕ). fetch_in slot_words (l.count j.society) j (length o) x) span) got.ensures.answer got.ensures.output in record { answer = both.0; output = both.1 }

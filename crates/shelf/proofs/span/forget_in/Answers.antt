@@ -1,5 +1,6 @@
 -- The slot that was found is dropped.
-use mathlib.Core.Path.{sym, ◌∙◌}
+use mathlib.Core.Path.{refl, sym, ◌∙◌}
+use Rattle.checked.specs.Answers.{refusal}
 use native.Mathlib.Omega.{arith}
 use Rattle.slots.specs.Slots.{slot_words, has_job}
 use Rattle.slots.proofs.Sizes.{found_below}
@@ -13,9 +14,9 @@ drop_slot-requires c = let a = c.args in
 
 pub returns : goal.returns
 returns c = let a = c.args in
-    let both = forget_at slot_words a.count a.job a.span.now c.in-Some.p c.plain-2.result (sym c.find_job.ensures ∙ c.in-Some.is) c.plain-2.ensures in
+    let both = forget_at slot_words a.count a.job a.span.now c.in-Some.p c.plain.result (sym c.find_job.ensures ∙ c.in-Some.is) c.plain.ensures in
     record { answer = both.0; span = c.drop_slot.ensures ∙ both.1 }
 
 pub returns-in_default : goal.returns-in_default
 returns-in_default c = let a = c.args in
-    let both = forget_none slot_words a.count a.job a.span.now c.plain.result (sym c.find_job.ensures ∙ c.in_default.is) c.plain.ensures in record { answer = both.0; span = both.1 }
+    let both = forget_none slot_words a.count a.job a.span.now (refusal 12 0).answer (sym c.find_job.ensures ∙ c.in_default.is) refl in record { answer = both.0; span = both.1 }

@@ -1,17 +1,20 @@
 -- The refusal of a table that does not meet its job, or its list.
-use mathlib.Core.Path.{sym, ◌∙◌}
+use mathlib.Core.Path.{◌≡◌, sym, ◌∙◌}
+use Rattle.std.specs.Prelude.{Err}
 use Rattle.measure.proofs.Verdicts.{meet_judging, walking}
+use borrow.Author.Rules.{rules}
 use Rattle.terms.proofs.Endings.{table_met, table_unmet}
 use Rattle.terms.proofs.listing.list_table.Goals as goal
 
-pub meet-walked-requires : goal.meet-walked-requires
-meet-walked-requires c = walking c.requires c.cells_of-n.ensures
+pub meet-requires : goal.meet-requires
+meet-requires c = walking c.requires c.cells_of-n.ensures
 
 pub list_all-requires : goal.list_all-requires
-list_all-requires c = (meet_judging (walking c.requires c.cells_of-n.ensures) (sym c.meet-walked.ensures.0 ∙ c.in-Held.is) c.meet-walked.ensures.1).parted
+list_all-requires c = (meet_judging (walking c.requires c.cells_of-n.ensures) (sym c.meet.ensures.0 ∙ c.in_ok-meet.was) c.meet.ensures.1).parted
 
-pub returns-in-Unmet : goal.returns-in-Unmet
-returns-in-Unmet c = table_unmet c.args.words.now c.args.proposal.now c.args.out.now c.meet-walked.ensures.0 c.in-Unmet.is
+pub returns-in_err-meet : goal.returns-in_err-meet
+returns-in_err-meet c = let e : c.from_residual.result ≡ Err c.in_err-meet.field-0.0 = search rules in
+    let H = table_unmet c.args.words.now c.args.proposal.now c.args.out.now c.meet.ensures.0 c.in_err-meet.was in (e ∙ H.0, H.1)
 
-pub returns-in-Held : goal.returns-in-Held
-returns-in-Held c = table_met c.args.words.now c.args.proposal.now c.args.out.now c.meet-walked.ensures.0 c.in-Held.is c.list_all.ensures.0
+pub returns : goal.returns
+returns c = table_met c.args.words.now c.args.proposal.now c.args.out.now c.meet.ensures.0 c.in_ok-meet.was c.list_all.ensures.0

@@ -31,7 +31,6 @@ pub struct Factor<'a> {
     pub cells: usize,
     pub reach: usize,
     pub ghost cells_few: { cells ≤ 120 },
-    pub ghost reach_few: { reach ≤ 120 },
     pub ghost placed: { Placed reach cells starts.now multipliers.now } by { Placed-prop reach cells starts.now multipliers.now },
 }
 

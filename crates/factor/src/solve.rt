@@ -7,10 +7,10 @@ use crate::{CELLS, Factor, Thin, lowest_of, start_at};
 
 // min(n - 1, j + z)
 fn highest_of(j: usize, z: usize, n: usize) -> usize
-    requires { (j < n) × (n ≤ 120) × (z ≤ 120) }
+    requires { (j < n) × (n ≤ 120) }
     ensures { result ≡ highest j z n }
 {
-    if j + z < n { j + z } else { n - 1 }
+    if z < n - j { j + z } else { n - 1 }
 }
 
 // x less L(j,m) y(m), for m rising from lo to j - 1; lj is the multipliers of row j.

@@ -114,7 +114,7 @@ fn factor_into(
     z: usize,
     made: &mut [f64],
 ) -> Result<f64, f64>
-    requires { (j < 120) × (z ≤ 48) × (z < length entries.now) × Placed z (j + 1) starts.now l.old × (made.old ≡ no_multipliers (j - lowest j z)) }
+    requires { (j < 120) × (z < length entries.now) × Placed z (j + 1) starts.now l.old × (made.old ≡ no_multipliers (j - lowest j z)) }
     ensures { (result ≡ judged (factor_step entries.now d.now l.old z j).pivot) × (l.new ≡ sets l.old (start_of z j) (factor_step entries.now d.now l.old z j).multipliers) × (made.new ≡ (factor_step entries.now d.now l.old z j).multipliers) }
 {
     let before = Factor {

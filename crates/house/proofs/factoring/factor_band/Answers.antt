@@ -7,7 +7,7 @@ use Rattle.house.proofs.Steps.{line_length, line_told}
 use Rattle.house.proofs.factoring.factor_band.Goals as goal
 
 pub invariant_of-before : goal.invariant_of-before
-invariant_of-before c = record { cells_few = omega arith; reach_few = omega (arith, c.requires.1); placed = fewer_rows (omega arith) (as_long c.requires.2 c.loop-j.invariant.0) }
+invariant_of-before c = record { cells_few = omega arith; placed = fewer_rows (omega arith) (as_long c.requires.2 c.loop-j.invariant.0) }
 
 pub put_made-requires : goal.put_made-requires
 put_made-requires c = let a = c.args in

@@ -17,7 +17,6 @@ invariant_of-made c = let k = c.requires.0 in
     let n = c.cells_of-n.ensures in
     let made = c.factor_band-ending.ensures.2 in record {
       cells_few = omega (arith, n, cells_few k);
-      reach_few = omega (arith, c.requires.1, order_few k);
       placed = line_places c.starts_of-starts.ensures (omega (arith, n, cells_few k)) (omega (arith, c.requires.1, order_few k))
           (ap length made ∙ factor_length (rows_of c.band-a.result) c.args.z c.cells_of-n.result 0 _ _ ∙ ap length c.requires.4);
     }

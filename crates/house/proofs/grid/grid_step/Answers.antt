@@ -15,4 +15,4 @@ factor_into-requires c = let n = c.requires.0 in
     let e = n.reach_is in
     let low = c.lowest_of-lo.ensures in
     let len = row_length (job_of c.args.words.now) c.args.j c.grid_row.ensures in
-    (omega (arith, cells_few n.known), omega (arith, e, few), omega arith, c.requires.4, blank_part 48 (ap (λ (k : ℕ). c.args.j - k) low) (omega arith))
+    (omega (arith, cells_few n.known), omega arith, c.requires.4, blank_part 48 (ap (λ (k : ℕ). c.args.j - k) low) (omega arith))

@@ -31,7 +31,6 @@ invariant_of-made c = let k = c.requires.0.known in
     let n = c.cells_of-n.ensures in
     let made = c.factor_grid-ending.ensures.2 in record {
       cells_few = omega (arith, n, cells_few k);
-      reach_few = omega (arith, c.requires.0.reach_is, reach_few k c.requires.0.columns_few);
       placed = rw n
           (places c.requires.0 c.requires.1
           (ap length made

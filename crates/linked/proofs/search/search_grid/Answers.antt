@@ -3,7 +3,6 @@ use mathlib.Core.Path.{refl}
 use lib.Ieee.{of_bits}
 use native.Mathlib.Omega.{arith}
 use Rattle.house.proofs.Told.{cells_few}
-use Rattle.house.proofs.Places.{reach_few}
 use Rattle.linked.proofs.Solved.{grid_fits, grid_ready}
 use Rattle.linked.proofs.search.search_grid.Goals as goal
 
@@ -15,7 +14,6 @@ pub invariant_of-factor : goal.invariant_of-factor
 invariant_of-factor c = let w = c.requires.0 in
     let n = c.cells_of-n.ensures in record {
       cells_few = omega (arith, n, cells_few w.known);
-      reach_few = omega (arith, w.reach_is, reach_few w.known w.columns_few);
       placed = grid_fits w.known n c.starts_of-starts.ensures w c.solve_grid-ending.ensures;
     }
 

@@ -1,6 +1,6 @@
 -- Zeros are lent for the line's factor, and the search goes on with it.
 use native.Mathlib.Omega.{arith}
-use Rattle.house.proofs.Told.{cells_few, order_few}
+use Rattle.house.proofs.Told.{cells_few}
 use Rattle.linked.proofs.Solved.{line_fits, line_ready}
 use Rattle.linked.proofs.search.search_line.Goals as goal
 
@@ -8,7 +8,6 @@ pub invariant_of-factor : goal.invariant_of-factor
 invariant_of-factor c = let k = c.requires.0 in
     let n = c.cells_of-n.ensures in record {
       cells_few = omega (arith, n, cells_few k);
-      reach_few = omega (arith, c.requires.2, order_few k);
       placed = line_fits k n c.starts_of-starts.ensures c.requires.2 c.solve_line_into-ending.ensures;
     }
 

@@ -4,8 +4,8 @@
 
 ghost use Rattle.std.specs.Prelude.{◌≡◌, ◌+◌, ◌-◌, ◌≤◌, ◌<◌, length, get_or};
 ghost use Rattle.std.proofs.lemmas.List.Edits.{sets};
-ghost use Rattle.factor.specs.Factor.{less_by, lowest, product_of, row_from, no_multipliers, judged, value_of, factor_step};
-ghost use Rattle.factor.specs.Places.{Starts, Placed};
+ghost use Rattle.factor.specs.Factor.{less_by, lowest, row_at, product_of, row_from, no_multipliers, judged, value_of, factor_step};
+ghost use Rattle.factor.specs.Places.{Starts, Placed, Placed-prop};
 
 pub mod solve;
 
@@ -20,6 +20,18 @@ pub const STARTS: usize = 121;
 pub struct Thin {
     pub cell: usize,
     pub pivot: f64,
+}
+
+// The factor of a number of cells, in a band as wide as its reach: their pivots, and the multipliers of all rows, row after row from their starts on.
+#[derive(Clone, Copy)]
+pub struct Factor<'a> {
+    pub pivots: &'a [f64; CELLS],
+    pub multipliers: &'a [f64],
+    pub starts: &'a [u16; STARTS],
+    pub cells: usize,
+    pub reach: usize,
+    pub ghost cells_few: { cells ≤ 120 },
+    pub ghost placed: { Placed reach cells starts.now multipliers.now } by { Placed-prop reach cells starts.now multipliers.now },
 }
 
 // max(0, j - z)
@@ -52,6 +64,19 @@ pub fn start_at(starts: &[u16; STARTS], i: usize) -> usize
     usize::from(starts[i])
 }
 
+impl<'a> Factor<'a> {
+    // The multipliers of row i.
+    fn row(self, i: usize) -> &'a [f64]
+        requires { i < self.cells }
+        ensures { (result.now ≡ row_at self.entry.reach self.entry.multipliers.now i) × (length result.now ≡ i - lowest i self.entry.reach) }
+    {
+        let at = start_at(self.starts, i);
+        let next = i + 1;
+        let end = start_at(self.starts, next);
+        &self.multipliers[at..end]
+    }
+}
+
 // x less (L(j,m) d(m)) L(i,m), for m rising from lo to i - 1; lj and li are the multipliers of the rows j and i.
 fn less_products(
     lj: &[f64],
@@ -74,28 +99,18 @@ fn less_products(
     rest
 }
 
-// The multipliers of row j, from its entries of the band and the rows before it.
-fn multipliers_into(
-    entries: &[f64],
-    d: &[f64; CELLS],
-    l: &[f64],
-    starts: &[u16; STARTS],
-    z: usize,
-    j: usize,
-    lo: usize,
-    made: &mut [f64],
-)
-    requires { (lo ≡ lowest j z) × (j < 120) × (z < length entries.now) × Placed z j starts.now l.now × (length made.old ≡ j - lo) }
-    ensures { made.new ≡ row_from z entries.now d.now l.now j lo (j - lo) lo made.old }
+// The multipliers of the row after those of a factor, from its entries of the band.
+fn multipliers_into(entries: &[f64], before: Factor, lo: usize, made: &mut [f64])
+    requires { (lo ≡ lowest before.cells before.reach) × (before.cells < 120) × (before.reach < length entries.now) × (length made.old ≡ before.cells - lo) }
+    ensures { made.new ≡ row_from before.entry.reach entries.now before.entry.pivots.now before.entry.multipliers.now before.entry.cells lo (before.entry.cells - lo) lo made.old }
 {
+    let j = before.cells;
     for i in lo..j {
         let offset = j - i;
-        let at = start_at(starts, i);
-        let next = i + 1;
-        let end = start_at(starts, next);
-        let rest = less_products(made, &l[at..end], d, entries[offset], j, i, lo);
+        let li = before.row(i);
+        let rest = less_products(made, li, before.pivots, entries[offset], j, i, lo);
         let place = offset - 1;
-        made[place] = rest / d[i];
+        made[place] = rest / before.pivots[i];
     }
 }
 
@@ -119,22 +134,15 @@ pub fn value_of(pivot: Result<f64, f64>) -> f64
     }
 }
 
-// One step of the factoring: row j into `made`, which is lent with zeros, and its pivot, accepted or thin.
-pub fn factor_row(
-    entries: &[f64],
-    d: &[f64; CELLS],
-    l: &[f64],
-    starts: &[u16; STARTS],
-    j: usize,
-    z: usize,
-    made: &mut [f64],
-) -> Result<f64, f64>
-    requires { (j < 120) × (z < length entries.now) × Placed z j starts.now l.now × (made.old ≡ no_multipliers (j - lowest j z)) }
-    ensures { (result ≡ judged (factor_step entries.now d.now l.now z j).pivot) × (made.new ≡ (factor_step entries.now d.now l.now z j).multipliers) }
+// One step of the factoring: the row after those of a factor into `made`, which is lent with zeros, and its pivot, accepted or thin.
+pub fn factor_row(entries: &[f64], before: Factor, made: &mut [f64]) -> Result<f64, f64>
+    requires { (before.cells < 120) × (before.reach < length entries.now) × (made.old ≡ no_multipliers (before.cells - lowest before.cells before.reach)) }
+    ensures { (result ≡ judged (factor_step entries.now before.entry.pivots.now before.entry.multipliers.now before.entry.reach before.entry.cells).pivot) × (made.new ≡ (factor_step entries.now before.entry.pivots.now before.entry.multipliers.now before.entry.reach before.entry.cells).multipliers) }
 {
-    let lo = lowest_of(j, z);
-    multipliers_into(entries, d, l, starts, z, j, lo, made);
-    judge(less_products(made, made, d, entries[0], j, j, lo))
+    let j = before.cells;
+    let lo = lowest_of(j, before.reach);
+    multipliers_into(entries, before, lo, made);
+    judge(less_products(made, made, before.pivots, entries[0], j, j, lo))
 }
 
 // A row's multipliers to their places among those of all rows.

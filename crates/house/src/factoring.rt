@@ -10,8 +10,9 @@ ghost use Rattle.house.specs.Factoring.{rows_of, answered, Solves, front, HandsO
 ghost use Rattle.house.specs.Proposal.{line_solved};
 
 use crate::band::band;
-use factor::solve::solve_whole;
-use factor::{CELLS, STARTS, Thin, factor_row, lowest_of, put_row, start_at, starts_of, value_of};
+use factor::{
+    CELLS, Factor, STARTS, Thin, factor_row, lowest_of, put_row, start_at, starts_of, value_of,
+};
 use jobs::words::cells_of;
 
 // The most multipliers of a row, and the most of all rows.
@@ -32,22 +33,15 @@ pub struct Step {
     pub row: Row,
 }
 
-// One step of the factoring: row j, with its pivot accepted or thin.
-pub fn factor_step(
-    entries: [f64; 5],
-    d: &[f64; CELLS],
-    l: &[f64],
-    starts: &[u16; STARTS],
-    j: usize,
-    z: usize,
-) -> Step
-    requires { (j < 120) × (z ≤ 4) × Placed z j starts.now l.now }
-    ensures { result ≡ answered (factor_step entries d.now l.now z j) }
+// One step of the factoring: the row after those of a factor, with its pivot accepted or thin.
+pub fn factor_step(entries: [f64; 5], before: Factor) -> Step
+    requires { (before.cells < 120) × (before.reach ≤ 4) }
+    ensures { result ≡ answered (factor_step entries before.entry.pivots.now before.entry.multipliers.now before.entry.reach before.entry.cells) }
 {
     let mut multipliers = [0.0; WIDTH];
-    let lo = lowest_of(j, z);
-    let count = j - lo;
-    let pivot = factor_row(&entries, d, l, starts, j, z, &mut multipliers[0..count]);
+    let lo = lowest_of(before.cells, before.reach);
+    let count = before.cells - lo;
+    let pivot = factor_row(&entries, before, &mut multipliers[0..count]);
     let x = value_of(pivot);
     let row = Row {
         pivot: x,
@@ -81,7 +75,14 @@ pub fn factor_band(
 {
     for j in 0..n {
         let entries = band[j];
-        let step = factor_step(entries, d, l, starts, j, z);
+        let before = Factor {
+            pivots: d,
+            multipliers: l,
+            starts,
+            cells: j,
+            reach: z,
+        };
+        let step = factor_step(entries, before);
         let row = step.row;
         d[j] = row.pivot;
         let lj = row.multipliers;
@@ -119,7 +120,14 @@ pub fn solve_line_into(
     let a = band(words, n, z);
     let starts = starts_of(n, z);
     let ending = factor_band(a, n, z, &starts, d, l);
-    solve_whole(ending, d, l, &starts, v, n, z)
+    let made = Factor {
+        pivots: d,
+        multipliers: l,
+        starts: &starts,
+        cells: n,
+        reach: z,
+    };
+    made.solve_whole(ending, v)
 }
 
 // The same with pivots and multipliers that go out as far as room is lent for them: who has no use for them lends none, and whoever solves a grid too

@@ -13,8 +13,7 @@ ghost use Rattle.house.specs.Grid.{grid_rows, grid_solved};
 ghost use Rattle.house.specs.Held.{below_of, beside_of, entry_by, spread_of, Narrow};
 
 use crate::band::{entries_of, squares_at, whole_entry};
-use factor::solve::solve_whole;
-use factor::{CELLS, STARTS, Thin, factor_row, lowest_of, put_row, start_at, value_of};
+use factor::{CELLS, Factor, STARTS, Thin, factor_row, lowest_of, put_row, start_at, value_of};
 use jobs::words::{across_of, cells_of, columns_of, constant_of, order_of, second_of, weight_at};
 
 // The most entries of a row of the band, the most multipliers of a row, and the most of all rows.
@@ -118,7 +117,14 @@ fn factor_into(
     requires { (j < 120) × (z < length entries.now) × Placed z (j + 1) starts.now l.old × (made.old ≡ no_multipliers (j - lowest j z)) }
     ensures { (result ≡ judged (factor_step entries.now d.now l.old z j).pivot) × (l.new ≡ sets l.old (start_of z j) (factor_step entries.now d.now l.old z j).multipliers) × (made.new ≡ (factor_step entries.now d.now l.old z j).multipliers) }
 {
-    let pivot = factor_row(entries, d, l, starts, j, z, made);
+    let before = Factor {
+        pivots: d,
+        multipliers: l,
+        starts,
+        cells: j,
+        reach: z,
+    };
+    let pivot = factor_row(entries, before, made);
     let at = start_at(starts, j);
     put_row(made, l, at);
     pivot
@@ -187,5 +193,12 @@ pub fn solve_grid(
     let downs = rows::row_of(order_of(words));
     let sides = rows::row_of(across_of(words));
     let ending = factor_grid(words, &downs, &sides, n, z, starts, d, l);
-    solve_whole(ending, d, l, starts, v, n, z)
+    let made = Factor {
+        pivots: d,
+        multipliers: l,
+        starts,
+        cells: n,
+        reach: z,
+    };
+    made.solve_whole(ending, v)
 }

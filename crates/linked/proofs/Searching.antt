@@ -14,6 +14,7 @@ use Rattle.passes.specs.Hildreth.{State, link_of, pass_from, pass_of, after_pass
 use Rattle.checked.specs.Answers.{accepted}
 use Rattle.linked.specs.Proposal.{verdict_after, accepted_at, passes_before}
 use Rattle.passes.specs.OnWords.{state, Counted}
+use Rattle.factor.specs.declared.Factor.{Factor}
 use Rattle.linked.specs.Given.{Starting}
 
 -- the pass after i others is not accepted
@@ -21,12 +22,12 @@ abbrev pub rejects : Job → ℕ → Bool
 rejects j i = not (accepted_at j (suc i))
 
 -- what a pass counts on
-module _ {ws : List ℤ} {n links z : ℕ} {d l : List Float} {starts : List ℕ} {given : ℕ} {v₀ y₀ : List Float} (S : Starting ws n links z d l starts given v₀ y₀) where
-  pub counted : Counted ws n links
+module _ {ws : List ℤ} {f : Factor} {links given : ℕ} {v₀ y₀ : List Float} (S : Starting ws f links given v₀ y₀) where
+  pub counted : Counted ws f.cells links
   counted = record { known = S.factored.known; n_is = S.factored.n_is; links_is = S.links_is }
 
   module _ {v y : List Float} (p : ℕ) (e : state v y ≡ after_pass (job_of ws) p) where
-    pub passed_is : {s : State} → s ≡ pass_from d l z n (link_of (job_of ws)) links 0 (state v y) → s ≡ after_pass (job_of ws) (suc p)
+    pub passed_is : {s : State} → s ≡ pass_from f.pivots.now f.multipliers.now f.reach f.cells (link_of (job_of ws)) links 0 (state v y) → s ≡ after_pass (job_of ws) (suc p)
     unfolding after_pass
     passed_is h =
         let F = S.factored in

@@ -23,6 +23,7 @@ use Rattle.house.proofs.Told.{cells_few, order_few}
 use Rattle.house.proofs.Shaped.{one_column, more_columns}
 use Rattle.house.proofs.Places.{reach_few}
 use Rattle.house.proofs.Solving.{line_is, grid_is, line_places, grid_places, pivots_length}
+use Rattle.factor.specs.declared.Factor.{Factor}
 use Rattle.linked.specs.Given.{Factored}
 
 pub line_room : (j : Job) → length (line_solved j).multipliers ≡ 480
@@ -48,36 +49,38 @@ pub grid_room : (j : Job) → length (grid_solved j).multipliers ≡ 4584
 unfolding grid_solved solved_with
 grid_room j = factor_length (grid_rows j) (reach j) j.cells 0 _ _
 
-module _ {ws : List ℤ} (k : Known ws) {n z : ℕ} (en : n ≡ cells_of ws) {starts : List ℕ} (st : Starts z n starts) where
+-- there is room for the rows that were made
+module _ {ws : List ℤ} (k : Known ws) {n : ℕ} (en : n ≡ cells_of ws) where
   few : n ≤ 120
   few = omega (arith, en, cells_few k)
 
-  -- what is known after a solve
-  abbrev Ready : Ending → (d l v : List Float) → Type 0
-  Ready e d l v = (e ≡ (solved_of (job_of ws)).ending) × Factored ws n z d l starts × (v ≡ (solved_of (job_of ws)).values)
+  module _ {z : ℕ} {starts : List ℕ} (st : Starts z n starts) {e : Ending} {d l v : List Float} where
+    pub line_fits : z ≡ order_of ws → Solves (line_solved (job_of ws)) e d l v → Placed z n starts l
+    line_fits ez h = line_places st few (omega (arith, ez, order_few k)) (ap length h.2 ∙ line_room (job_of ws))
 
-  ready : z ≡ reach (job_of ws) → z ≤ 48 → {s : Solved} → s ≡ solved_of (job_of ws) → {e : Ending} {d l v : List Float} → Placed z n starts l → Solves s e d l v → Ready e d l v
-  ready ez zs p {e} {d} {l} {v} pl h = (
+    pub grid_fits : Narrow ws z → Solves (grid_solved (job_of ws)) e d l v → Placed z n starts l
+    grid_fits narrow h = grid_places st few (omega (arith, narrow.reach_is, reach_few k narrow.columns_few)) (ap length h.2 ∙ grid_room (job_of ws))
+
+-- what is known after a solve
+abbrev Ready : List ℤ → Factor → Ending → (v : List Float) → Type 0
+Ready ws f e v = (e ≡ (solved_of (job_of ws)).ending) × Factored ws f × (v ≡ (solved_of (job_of ws)).values)
+
+module _ {ws : List ℤ} (k : Known ws) {f : Factor} (en : f.cells ≡ cells_of ws) {e : Ending} {v : List Float} where
+  ready : f.reach ≡ reach (job_of ws) → {s : Solved} → s ≡ solved_of (job_of ws) → Solves s e f.pivots.now f.multipliers.now v → Ready ws f e v
+  ready ez p h = (
     h.0 ∙ ap {B = Ending} (λ (s : Solved). s.ending) p,
     record {
       known = k;
       n_is = en;
       z_is = ez;
-      z_few = zs;
       d_is = h.1 ∙ ap {B = List Float} (λ (s : Solved). s.pivots) p;
       l_is = h.2 ∙ ap {B = List Float} (λ (s : Solved). s.multipliers) p;
-      placed = pl;
     },
     h.3 ∙ ap {B = List Float} (λ (s : Solved). s.values) p,
   )
 
-  pub line_ready : columns_of ws ≡ 1 → z ≡ order_of ws → {e : Ending} {d l v : List Float} → Solves (line_solved (job_of ws)) e d l v → Ready e d l v
-  line_ready one ez h =
-      let low : z ≤ 4 = omega (arith, ez, order_few k) in
-      ready (ez ∙ sym (N.mul-one (order_of ws)) ∙ ap (λ (c : ℕ). order_of ws * c) (sym one)) (omega (arith, low)) (line_is (job_of ws) (one_column k one))
-      (line_places st few low (ap length h.2 ∙ line_room (job_of ws))) h
+  pub line_ready : columns_of ws ≡ 1 → f.reach ≡ order_of ws → Solves (line_solved (job_of ws)) e f.pivots.now f.multipliers.now v → Ready ws f e v
+  line_ready one ez h = ready (ez ∙ sym (N.mul-one (order_of ws)) ∙ ap (λ (c : ℕ). order_of ws * c) (sym one)) (line_is (job_of ws) (one_column k one)) h
 
-  pub grid_ready : (columns_of ws ≡ 1 → ⊥) → Narrow ws z → {e : Ending} {d l v : List Float} → Solves (grid_solved (job_of ws)) e d l v → Ready e d l v
-  grid_ready more narrow h =
-      let low : z ≤ 48 = omega (arith, narrow.reach_is, reach_few k narrow.columns_few) in
-      ready narrow.reach_is low (grid_is (job_of ws) (more_columns k more)) (grid_places st few low (ap length h.2 ∙ grid_room (job_of ws))) h
+  pub grid_ready : (columns_of ws ≡ 1 → ⊥) → Narrow ws f.reach → Solves (grid_solved (job_of ws)) e f.pivots.now f.multipliers.now v → Ready ws f e v
+  grid_ready more narrow h = ready narrow.reach_is (grid_is (job_of ws) (more_columns k more)) h

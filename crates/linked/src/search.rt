@@ -11,7 +11,7 @@ ghost use Rattle.linked.specs.Given.{Factored, Starting};
 
 use crate::Offer;
 use crate::rounded::{accepts, write_after};
-use factor::{CELLS, STARTS, Thin, starts_of};
+use factor::{CELLS, Factor, Thin, starts_of};
 use house::band::right;
 use house::factoring::{LINE_PLACES, solve_line_into};
 use house::grid::{GRID_PLACES, solve_grid};
@@ -23,22 +23,18 @@ use refusals::Refusal;
 // multipliers stay as they are then.
 fn search(
     words: &[i64],
-    n: usize,
     links: usize,
-    z: usize,
-    d: &[f64; CELLS],
-    l: &[f64],
-    starts: &[u16; STARTS],
+    factor: Factor,
     given: u64,
     v: &mut [f64; CELLS],
     y: &mut [f64; LINKS],
 ) -> u64
-    requires { Starting words.now n links z d.now l.now starts.now given v.old y.old }
+    requires { Starting words.now factor links given v.old y.old }
     ensures { (result ≡ passes_before (job_of words.now) given) × (state v.new y.new ≡ after_pass (job_of words.now) (min (suc (passes_before (job_of words.now) given)) given)) }
 {
     for p in 0..given {
-        pass(words, n, links, z, d, l, starts, v, y);
-        if accepts(words, n, links, v, y) {
+        pass(words, links, factor, v, y);
+        if accepts(words, factor.cells, links, v, y) {
             return p;
         }
     }
@@ -48,25 +44,21 @@ fn search(
 // The search from the house's values before rounding, and what it offers.
 fn improve_from(
     words: &[i64],
-    n: usize,
-    z: usize,
-    d: &[f64; CELLS],
-    l: &[f64],
-    starts: &[u16; STARTS],
+    factor: Factor,
     given: u64,
     v: &mut [f64; CELLS],
     out: &mut [u8],
 ) -> Result<Offer, Refusal>
-    requires { Factored words.now n z d.now l.now starts.now × (v.old ≡ (solved_of (job_of words.now)).values) × (given ≤ 200) }
+    requires { Factored words.now factor × (v.old ≡ (solved_of (job_of words.now)).values) × (given ≤ 200) }
     ensures { Ends (on_first (length out.old) given (job_of words.now) (passes_before (job_of words.now) given)) out.old result out.new }
 {
-    let links = links_of(words, n);
+    let links = links_of(words, factor.cells);
     let mut y = [0.0; LINKS];
-    let before = search(words, n, links, z, d, l, starts, given, v, &mut y);
+    let before = search(words, links, factor, given, v, &mut y);
     if given <= before {
         return Err(Refusal::NotReached(given as usize));
     }
-    let bytes = write_after(words, n, links, v, &y, out)?;
+    let bytes = write_after(words, factor.cells, links, v, &y, out)?;
     Ok(Offer {
         bytes,
         passes: before + 1,
@@ -77,22 +69,18 @@ fn improve_from(
 fn on_ending(
     ending: Result<(), Thin>,
     words: &[i64],
-    n: usize,
-    z: usize,
-    d: &[f64; CELLS],
-    l: &[f64],
-    starts: &[u16; STARTS],
+    factor: Factor,
     given: u64,
     v: &mut [f64; CELLS],
     out: &mut [u8],
 ) -> Result<Offer, Refusal>
-    requires { (ending ≡ (solved_of (job_of words.now)).ending) × Factored words.now n z d.now l.now starts.now × (v.old ≡ (solved_of (job_of words.now)).values) × (given ≤ 200) }
+    requires { (ending ≡ (solved_of (job_of words.now)).ending) × Factored words.now factor × (v.old ≡ (solved_of (job_of words.now)).values) × (given ≤ 200) }
     ensures { Ends (on_ending (length out.old) given (job_of words.now) (solved_of (job_of words.now)).ending) out.old result out.new }
 {
     if let Err(thin) = ending {
         return Err(Refusal::TooThin(thin.cell));
     }
-    improve_from(words, n, z, d, l, starts, given, v, out)
+    improve_from(words, factor, given, v, out)
 }
 
 // The offer for a line, and for a grid, each with room for its own factor.
@@ -107,7 +95,14 @@ fn search_line(words: &[i64], z: usize, given: u64, out: &mut [u8]) -> Result<Of
     let mut l = [0.0; LINE_PLACES];
     let ending = solve_line_into(words, z, &mut v, &mut d, &mut l);
     let starts = starts_of(n, z);
-    on_ending(ending, words, n, z, &d, &l, &starts, given, &mut v, out)
+    let factor = Factor {
+        pivots: &d,
+        multipliers: &l,
+        starts: &starts,
+        cells: n,
+        reach: z,
+    };
+    on_ending(ending, words, factor, given, &mut v, out)
 }
 
 fn search_grid(words: &[i64], z: usize, given: u64, out: &mut [u8]) -> Result<Offer, Refusal>
@@ -121,7 +116,14 @@ fn search_grid(words: &[i64], z: usize, given: u64, out: &mut [u8]) -> Result<Of
     let mut v = [0.0; CELLS];
     right(words, &mut v);
     let ending = solve_grid(words, z, &starts, &mut d, &mut l, &mut v);
-    on_ending(ending, words, n, z, &d, &l, &starts, given, &mut v, out)
+    let factor = Factor {
+        pivots: &d,
+        multipliers: &l,
+        starts: &starts,
+        cells: n,
+        reach: z,
+    };
+    on_ending(ending, words, factor, given, &mut v, out)
 }
 
 // The same of a low order, and a grid of a small reach: with these, as at the house proposal, a line does not pay for a grid's room.

@@ -1,15 +1,13 @@
 // Hildreth's method: one link's multiplier improved after the other. A link's solution is worked out anew at every pass: 160 of them kept would take 154 KB
 // of stack.
 ghost use Rattle.std.specs.Prelude.{◌≡◌, ◌≤◌};
-ghost use Rattle.factor.specs.Places.{Placed};
 ghost use Rattle.jobs.specs.Words.{cells_of, job_of};
 ghost use Rattle.measure.specs.Given.{LinkAt};
 ghost use Rattle.passes.specs.Hildreth.{raised_of, fallen_from, improved_of, link_of, pass_from};
 ghost use Rattle.passes.specs.OnWords.{link_at, state, Counted};
 
 use crate::link::{bound_at, right_for, sum_over};
-use factor::solve::solve;
-use factor::{CELLS, STARTS};
+use factor::{CELLS, Factor};
 use jobs::words::first_link_of;
 use measure::links::next_start;
 
@@ -36,50 +34,30 @@ fn fall(v: &mut [f64; CELLS], x: &[f64; CELLS], h: f64, n: usize)
 }
 
 // Improves the multiplier y of the link that starts at s, and lets the values fall.
-fn improve(
-    words: &[i64],
-    s: usize,
-    n: usize,
-    z: usize,
-    d: &[f64; CELLS],
-    l: &[f64],
-    starts: &[u16; STARTS],
-    y: f64,
-    v: &mut [f64; CELLS],
-) -> f64
-    requires { LinkAt words.now s × (cells_of words.now ≤ 120) × (n ≤ 120) × (z ≤ 120) × Placed z n starts.now l.now }
-    ensures { (result ≡ (improved_of d.now l.now z n (link_at words.now s) y v.old).multiplier) × (v.new ≡ (improved_of d.now l.now z n (link_at words.now s) y v.old).values) }
+fn improve(words: &[i64], s: usize, factor: Factor, y: f64, v: &mut [f64; CELLS]) -> f64
+    requires { LinkAt words.now s × (cells_of words.now ≤ 120) }
+    ensures { (result ≡ (improved_of factor.entry.pivots.now factor.entry.multipliers.now factor.entry.reach factor.entry.cells (link_at words.now s) y v.old).multiplier) × (v.new ≡ (improved_of factor.entry.pivots.now factor.entry.multipliers.now factor.entry.reach factor.entry.cells (link_at words.now s) y v.old).values) }
 {
     let mut x = right_for(words, s);
-    solve(d, l, starts, &mut x, n, z);
+    factor.solve(&mut x);
     let c = sum_over(words, s, &x);
     let sum = sum_over(words, s, v);
     let b = bound_at(words, s);
     let new = raised(y, sum, b, c);
     let h = 0.5 * (new - y);
-    fall(v, &x, h, n);
+    fall(v, &x, h, factor.cells);
     new
 }
 
 // A pass: every link in turn.
-pub fn pass(
-    words: &[i64],
-    n: usize,
-    links: usize,
-    z: usize,
-    d: &[f64; CELLS],
-    l: &[f64],
-    starts: &[u16; STARTS],
-    v: &mut [f64; CELLS],
-    y: &mut [f64; LINKS],
-)
-    requires { Counted words.now n links × (z ≤ 120) × Placed z n starts.now l.now }
-    ensures { state v.new y.new ≡ pass_from d.now l.now z n (link_of (job_of words.now)) links 0 (state v.old y.old) }
+pub fn pass(words: &[i64], links: usize, factor: Factor, v: &mut [f64; CELLS], y: &mut [f64; LINKS])
+    requires { Counted words.now factor.cells links }
+    ensures { state v.new y.new ≡ pass_from factor.entry.pivots.now factor.entry.multipliers.now factor.entry.reach factor.entry.cells (link_of (job_of words.now)) links 0 (state v.old y.old) }
 {
-    let mut s = first_link_of(words, n);
+    let mut s = first_link_of(words, factor.cells);
     for i in 0..links {
         let was = y[i];
-        let new = improve(words, s, n, z, d, l, starts, was, v);
+        let new = improve(words, s, factor, was, v);
         y[i] = new;
         s = next_start(words, s);
     }

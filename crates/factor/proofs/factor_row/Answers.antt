@@ -5,5 +5,5 @@ use Rattle.factor.proofs.factor_row.Goals as goal
 
 pub returns : goal.returns
 returns c = let a = c.args in
-    let q = step_is a.entries.now a.d.now a.l.now a.z a.j c.lowest_of-lo.ensures c.requires.3 c.multipliers_into.ensures c.less_products.ensures in
+    let q = step_is a.entries.now a.before.pivots.now a.before.multipliers.now a.before.reach a.before.cells c.lowest_of-lo.ensures c.requires.2 c.multipliers_into.ensures c.less_products.ensures in
     (c.judge.ensures ∙ q.0, q.1)

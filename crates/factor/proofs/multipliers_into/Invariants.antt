@@ -6,4 +6,4 @@ use Rattle.factor.specs.Factor.{row_from}
 use Rattle.factor.proofs.multipliers_into.Given as goal
 
 abbrev pub invariant-loop-i : goal.invariant-loop-i
-invariant-loop-i l = (length l.made ≡ l.j - l.lo) × (row_from l.z l.entries l.d l.l l.j l.lo (l.j - l.i) l.i l.made ≡ row_from l.z l.entries l.d l.l l.j l.lo (l.j - l.lo) l.lo l.initial.made)
+invariant-loop-i l = (length l.made ≡ l.before.cells - l.lo) × (row_from l.before.reach l.entries l.before.pivots.now l.before.multipliers.now l.before.cells l.lo (l.before.cells - l.i) l.i l.made ≡ row_from l.before.reach l.entries l.before.pivots.now l.before.multipliers.now l.before.cells l.lo (l.before.cells - l.lo) l.lo l.initial.made)

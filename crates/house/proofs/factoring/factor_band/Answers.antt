@@ -6,8 +6,8 @@ use Rattle.house.specs.Factoring.{rows_of}
 use Rattle.house.proofs.Steps.{line_length, line_told}
 use Rattle.house.proofs.factoring.factor_band.Goals as goal
 
-pub factor_step-step-requires : goal.factor_step-step-requires
-factor_step-step-requires c = (omega arith, c.requires.1, fewer_rows (omega arith) (as_long c.requires.2 c.loop-j.invariant.0))
+pub invariant_of-before : goal.invariant_of-before
+invariant_of-before c = record { cells_few = omega arith; placed = fewer_rows (omega arith) (as_long c.requires.2 c.loop-j.invariant.0) }
 
 pub put_made-requires : goal.put_made-requires
 put_made-requires c = let a = c.args in

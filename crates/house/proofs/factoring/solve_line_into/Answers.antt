@@ -12,15 +12,14 @@ factor_band-ending-requires c = let k = c.requires.0 in
     let n = c.cells_of-n.ensures in
     (omega (arith, n, cells_few k), omega (arith, c.requires.1, order_few k), line_places c.starts_of-starts.ensures (omega (arith, n, cells_few k)) (omega (arith, c.requires.1, order_few k)) (ap length c.requires.4))
 
-pub solve_whole-requires : goal.solve_whole-requires
-solve_whole-requires c = let k = c.requires.0 in
+pub invariant_of-made : goal.invariant_of-made
+invariant_of-made c = let k = c.requires.0 in
     let n = c.cells_of-n.ensures in
-    let made = c.factor_band-ending.ensures.2 in (
-      omega (arith, n, cells_few k),
-      omega (arith, c.requires.1, order_few k),
-      line_places c.starts_of-starts.ensures (omega (arith, n, cells_few k)) (omega (arith, c.requires.1, order_few k))
-          (ap length made ∙ factor_length (rows_of c.band-a.result) c.args.z c.cells_of-n.result 0 _ _ ∙ ap length c.requires.4),
-    )
+    let made = c.factor_band-ending.ensures.2 in record {
+      cells_few = omega (arith, n, cells_few k);
+      placed = line_places c.starts_of-starts.ensures (omega (arith, n, cells_few k)) (omega (arith, c.requires.1, order_few k))
+          (ap length made ∙ factor_length (rows_of c.band-a.result) c.args.z c.cells_of-n.result 0 _ _ ∙ ap length c.requires.4);
+    }
 
 pub returns : goal.returns
 returns c = let j = job_of c.args.words.now in

@@ -3,8 +3,8 @@ use Rattle.std.proofs.Common.{length, ap, ◌∙◌, arith}
 use Rattle.factor.proofs.Turns.{fewer_rows, made_length, row_fits}
 use Rattle.house.proofs.grid.factor_into.Goals as goal
 
-pub factor_row-pivot-requires : goal.factor_row-pivot-requires
-factor_row-pivot-requires c = (c.requires.0, c.requires.1, fewer_rows (omega arith) c.requires.2, c.requires.3)
+pub invariant_of-before : goal.invariant_of-before
+invariant_of-before c = record { cells_few = omega (arith, c.requires.0); placed = fewer_rows (omega arith) c.requires.2 }
 
 pub put_row-requires : goal.put_row-requires
 put_row-requires c = let a = c.args in

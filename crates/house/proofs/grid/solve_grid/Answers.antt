@@ -26,18 +26,17 @@ factor_grid-ending-requires c = let n = c.cells_of-n.ensures in (
   rw n (places c.requires.0 c.requires.1 (ap length c.requires.3)),
 )
 
-pub solve_whole-requires : goal.solve_whole-requires
-solve_whole-requires c = let k = c.requires.0.known in
+pub invariant_of-made : goal.invariant_of-made
+invariant_of-made c = let k = c.requires.0.known in
     let n = c.cells_of-n.ensures in
-    let made = c.factor_grid-ending.ensures.2 in (
-      omega (arith, n, cells_few k),
-      omega (arith, c.requires.0.reach_is, reach_few k c.requires.0.columns_few),
-      rw n
+    let made = c.factor_grid-ending.ensures.2 in record {
+      cells_few = omega (arith, n, cells_few k);
+      placed = rw n
           (places c.requires.0 c.requires.1
           (ap length made
           ∙ factor_length (grid_rows (job_of c.args.words.now)) c.args.z c.cells_of-n.result 0 _ _
-          ∙ ap length c.requires.3)),
-    )
+          ∙ ap length c.requires.3));
+    }
 
 pub returns : goal.returns
 returns c = let j = job_of c.args.words.now in

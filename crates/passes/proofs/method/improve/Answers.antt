@@ -7,7 +7,7 @@ use Rattle.passes.proofs.method.improve.Goals as goal
 pub returns : goal.returns
 unfolding of_bits
 returns c = let a = c.args in
-    improved_is a.d.now a.l.now a.z a.n (link_at a.words.now a.s) a.y a.v.now
+    improved_is a.factor.pivots.now a.factor.multipliers.now a.factor.reach a.factor.cells (link_at a.words.now a.s) a.y a.v.now
     c.right_for-x.ensures
     c.solve.ensures
     c.sum_over-c.ensures

@@ -5,26 +5,26 @@ use Rattle.jobs.specs.Words.{job_of}
 use Rattle.passes.specs.Hildreth.{State, link_of, pass_from}
 use Rattle.passes.specs.OnWords.{state}
 use Rattle.passes.proofs.Turns.{pass_more, pass_done}
-use Rattle.passes.proofs.Passing.{next_state, cells_most, at_link, next_starts}
+use Rattle.passes.proofs.Passing.{next_state, at_link, next_starts}
 use Rattle.passes.proofs.method.pass.Goals as goal
 
 pub improve-new-requires : goal.improve-new-requires
 improve-new-requires c = let p = c.requires in
-    (at_link p.0 (omega arith) c.loop-i.invariant.0, p.0.known.allowed.cells_few, cells_most p.0, p.1, p.2)
+    (at_link p (omega arith) c.loop-i.invariant.0, p.known.allowed.cells_few)
 
 pub next_start-s-requires : goal.next_start-s-requires
-next_start-s-requires c = at_link c.requires.0 (omega arith) c.loop-i.invariant.0
+next_start-s-requires c = at_link c.requires (omega arith) c.loop-i.invariant.0
 
 pub loop-i-preserved : goal.loop-i-preserved
 loop-i-preserved c = let a = c.args in
     let i = c.loop-i.i in
     let ws = a.words.now in (
-      next_starts c.requires.0 (omega arith) c.loop-i.invariant.0 c.next_start-s.ensures,
-      ap {B = State} (λ (s : State). pass_from a.d.now a.l.now a.z a.n (link_of (job_of ws)) (a.links - (i + 1)) (i + 1) s)
-          (next_state ws a.d.now a.l.now a.z a.n i c.loop-i.invariant.0 c.loop-i.v c.loop-i.y c.improve-new.ensures)
-          ∙ sym (pass_more a.d.now a.l.now a.z a.n (link_of (job_of ws)) i a.links (state c.loop-i.v c.loop-i.y) (omega arith)) ∙ c.loop-i.invariant.1,
+      next_starts c.requires (omega arith) c.loop-i.invariant.0 c.next_start-s.ensures,
+      ap {B = State} (λ (s : State). pass_from a.factor.pivots.now a.factor.multipliers.now a.factor.reach a.factor.cells (link_of (job_of ws)) (a.links - (i + 1)) (i + 1) s)
+          (next_state ws a.factor.pivots.now a.factor.multipliers.now a.factor.reach a.factor.cells i c.loop-i.invariant.0 c.loop-i.v c.loop-i.y c.improve-new.ensures)
+          ∙ sym (pass_more a.factor.pivots.now a.factor.multipliers.now a.factor.reach a.factor.cells (link_of (job_of ws)) i a.links (state c.loop-i.v c.loop-i.y) (omega arith)) ∙ c.loop-i.invariant.1,
     )
 
 pub returns : goal.returns
 returns c = let a = c.args in
-    sym (pass_done a.d.now a.l.now a.z a.n (link_of (job_of a.words.now)) c.loop-i.i a.links (state c.loop-i.v c.loop-i.y) (omega arith)) ∙ c.loop-i.invariant.1
+    sym (pass_done a.factor.pivots.now a.factor.multipliers.now a.factor.reach a.factor.cells (link_of (job_of a.words.now)) c.loop-i.i a.links (state c.loop-i.v c.loop-i.y) (omega arith)) ∙ c.loop-i.invariant.1

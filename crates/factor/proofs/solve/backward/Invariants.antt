@@ -1,7 +1,0 @@
--- After the turns from the last cell down, what is left is the values below j.
-use mathlib.Core.Path.{◌≡◌}
-use Rattle.factor.specs.Solve.{backward_from}
-use Rattle.factor.proofs.solve.backward.Given as goal
-
-abbrev pub invariant-loop-j : goal.invariant-loop-j
-invariant-loop-j l = backward_from l.l l.z l.n l.j l.v ≡ backward_from l.l l.z l.n l.n l.initial.v

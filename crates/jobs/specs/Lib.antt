@@ -2,6 +2,7 @@
 pub mod Job
 pub mod Words
 pub mod Allowed
+pub mod Unique
 pub mod Packs
 pub mod Promises
 pub mod Examples

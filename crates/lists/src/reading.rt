@@ -1,22 +1,13 @@
 // A whole list: its header and its lines of data, up to the first fault.
-ghost use Rattle.std.specs.Prelude.{◌≡◌, ◌+◌, ◌≤◌, length, set, drop};
+ghost use Rattle.std.specs.Prelude.{◌≡◌, ◌+◌, ◌≤◌, length, drop};
 ghost use Rattle.decimals.specs.Whole.{largest};
 ghost use Rattle.lists.specs.Cut.{lines_of};
 ghost use Rattle.lists.specs.Lines.{most_lines, line_of, refusal_at, refused_at, listed_from, listed_of, ListRead};
 
 use crate::cut::break_from;
 use crate::lines::{Entry, Fault, is_header, line_of};
+use numbers::lent::store;
 use refusals::Refusal;
-
-// Sets the word at k, where there is one. (By `get_mut` the goal speaks of values that a proof may not cite.)
-fn store(kept: &mut [u32], k: usize, x: u64)
-    requires { x ≤ largest }
-    ensures { kept.new ≡ set kept.old k x }
-{
-    if k < kept.len() {
-        kept[k] = x as u32;
-    }
-}
 
 // The refusal of a fault on that line.
 fn refusal_at(fault: Fault, line: usize) -> Refusal
@@ -56,8 +47,8 @@ fn read_lines(
     while at < text.len() {
         let end = break_from(text, at);
         let entry = entry_at(claims, k, before, &text[at..end])?;
-        store(exposures, k, entry.exposure);
-        store(counts, k, entry.count);
+        store(exposures, k, entry.exposure as u32);
+        store(counts, k, entry.count as u32);
         before = entry.age;
         k += 1;
         at = end + 2;

@@ -1,12 +1,13 @@
 // The one walk along the table of `fields`. A reader's numbers come from the bytes of a pack, the writer's from words: both take the same steps, so
 // that the writer refuses as reading its pack would.
-ghost use Rattle.std.specs.Prelude.{◌≡◌, true, ◌+◌, ◌*◌, ◌^◌, ◌≤◌, ◌<◌, set};
+ghost use Rattle.std.specs.Prelude.{◌≡◌, true, ◌+◌, ◌*◌, ◌^◌, ◌≤◌, ◌<◌};
 ghost use Rattle.fields.specs.Table.{step_of};
 ghost use Rattle.packs.specs.Reading.{settled, Hands};
 ghost use Rattle.packs.specs.Walking.{writes, bytes_in, words_in, in_groups, in_words, Small, next_of, left_of, kept_of, walk_move, walk_of};
 
 use crate::words::{raw_of, word_of};
 use fields::{Barred, Field};
+use numbers::lent::store;
 use numbers::plain::Number;
 use refusals::Refusal;
 
@@ -115,15 +116,6 @@ fn move_at(source: Source, k: usize, at: usize, f: Field) -> Result<Option<Taken
     }
     let n = next_of(source, k, at, f)?;
     tested(source, f, n, at)
-}
-
-// Sets the word at k, where there is one.
-fn store(kept: &mut [i64], k: usize, word: i64)
-    ensures { kept.new ≡ set kept.old k word }
-{
-    if k < kept.len() {
-        kept[k] = word;
-    }
 }
 
 // Walks from the field `first` on. What is kept of each number goes into `kept` as far as there is room, also before a refusal: lend it room of your own.

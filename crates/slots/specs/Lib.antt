@@ -1,2 +1,3 @@
 -- What the slots of a span are, and what is done to them.
 pub mod Slots
+pub mod Tables

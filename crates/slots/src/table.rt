@@ -1,8 +1,20 @@
 // A table as the words of a slot: its head, its values, its multipliers.
 ghost use Rattle.std.specs.Prelude.{◌≡◌, ◌≤◌, length};
-ghost use Rattle.slots.specs.Slots.{most_cells, most_links, head_size, slot_words, low_word, high_word, head_of, padded, slot_of};
+ghost use Rattle.slots.specs.Slots.{most_cells, most_links, head_size, low_word, high_word, head_of, padded};
 
 use crate::{HEAD, SLOT_WORDS, VALUES_END};
+
+// What a slot keeps: a job's number, F and G of its accepted check, and its values and multipliers.
+#[derive(Clone, Copy)]
+pub struct Table<'a> {
+    pub job: u32,
+    pub loss: u64,
+    pub gap: u64,
+    pub values: &'a [u32],
+    pub multipliers: &'a [u32],
+    pub ghost values_few: { length values.now ≤ most_cells },
+    pub ghost multipliers_few: { length multipliers.now ≤ most_links },
+}
 
 // A number's low and high word.
 fn low(x: u64) -> u32
@@ -35,21 +47,27 @@ fn put_padded(part: &mut [u32], words: &[u32])
     part[n..].fill(0);
 }
 
-// A slot's words: its head, the values, the multipliers, zeros after each.
-pub fn put_table(
-    slot: &mut [u32],
-    job: u32,
-    loss: u64,
-    gap: u64,
-    values: &[u32],
-    multipliers: &[u32],
-)
-    requires { (length slot.old ≡ slot_words) × (length values.now ≤ most_cells) × (length multipliers.now ≤ most_links) }
-    ensures { slot.new ≡ slot_of slot_words job loss gap values.now multipliers.now }
-{
-    let n = values.len();
-    let links = multipliers.len();
-    put_head(&mut slot[..HEAD], n as u32, job, loss, gap, links as u32);
-    put_padded(&mut slot[HEAD..VALUES_END], values);
-    put_padded(&mut slot[VALUES_END..SLOT_WORDS], multipliers);
+impl Table<'_> {
+    ghost use Rattle.std.specs.Prelude.{◌≡◌, length};
+    ghost use Rattle.slots.specs.Slots.{slot_words};
+    ghost use Rattle.slots.specs.Tables.{words_of};
+
+    // The slot becomes the table: its head, the values, the multipliers, zeros after each.
+    pub fn put_into(self, slot: &mut [u32])
+        requires { length slot.old ≡ slot_words }
+        ensures { slot.new ≡ words_of self.entry }
+    {
+        let n = self.values.len();
+        let links = self.multipliers.len();
+        put_head(
+            &mut slot[..HEAD],
+            n as u32,
+            self.job,
+            self.loss,
+            self.gap,
+            links as u32,
+        );
+        put_padded(&mut slot[HEAD..VALUES_END], self.values);
+        put_padded(&mut slot[VALUES_END..SLOT_WORDS], self.multipliers);
+    }
 }

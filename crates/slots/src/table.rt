@@ -1,6 +1,6 @@
 // A table as the words of a slot: its head, its values, its multipliers.
 ghost use Rattle.std.specs.Prelude.{◌≡◌, ◌≤◌, length};
-ghost use Rattle.slots.specs.Slots.{most_cells, most_links, head_size, low_word, high_word, head_of, padded};
+ghost use Rattle.slots.specs.Slots.{most_cells, most_links, low_word, high_word, padded};
 
 use crate::{HEAD, SLOT_WORDS, VALUES_END};
 
@@ -29,14 +29,6 @@ fn high(x: u64) -> u32
     (x / 4294967296) as u32
 }
 
-// A slot's head: n, job, F low and high, G low and high, the link count.
-fn put_head(head: &mut [u32], n: u32, job: u32, loss: u64, gap: u64, links: u32)
-    requires { length head.old ≡ head_size }
-    ensures { head.new ≡ head_of n job loss gap links }
-{
-    head.copy_from_slice(&[n, job, low(loss), high(loss), low(gap), high(gap), links]);
-}
-
 // The words, and zeros after them.
 fn put_padded(part: &mut [u32], words: &[u32])
     requires { length words.now ≤ length part.old }
@@ -49,24 +41,26 @@ fn put_padded(part: &mut [u32], words: &[u32])
 
 impl Table<'_> {
     ghost use Rattle.std.specs.Prelude.{◌≡◌, length};
-    ghost use Rattle.slots.specs.Slots.{slot_words};
+    ghost use Rattle.slots.specs.Slots.{head_size, head_of, slot_words};
     ghost use Rattle.slots.specs.Tables.{words_of};
+
+    // A slot's head: n, job, F low and high, G low and high, the link count.
+    fn put_head(self, head: &mut [u32])
+        requires { length head.old ≡ head_size }
+        ensures { head.new ≡ head_of (length self.entry.values.now) self.entry.job self.entry.loss self.entry.gap (length self.entry.multipliers.now) }
+    {
+        let Table { job, loss, gap, .. } = self;
+        let n = self.values.len() as u32;
+        let links = self.multipliers.len() as u32;
+        head.copy_from_slice(&[n, job, low(loss), high(loss), low(gap), high(gap), links]);
+    }
 
     // The slot becomes the table: its head, the values, the multipliers, zeros after each.
     pub fn put_into(self, slot: &mut [u32])
         requires { length slot.old ≡ slot_words }
         ensures { slot.new ≡ words_of self.entry }
     {
-        let n = self.values.len();
-        let links = self.multipliers.len();
-        put_head(
-            &mut slot[..HEAD],
-            n as u32,
-            self.job,
-            self.loss,
-            self.gap,
-            links as u32,
-        );
+        self.put_head(&mut slot[..HEAD]);
         put_padded(&mut slot[HEAD..VALUES_END], self.values);
         put_padded(&mut slot[VALUES_END..SLOT_WORDS], self.multipliers);
     }

@@ -17,7 +17,7 @@ counting_small passes (Err r) s = record { number = s.number; place = s.place }
 pub linked_small : (room passes : ℕ) (job : List ℕ) → Small (offer_of (linked_of room passes job).offer)
 linked_small room passes job =
     linked_cases (λ (r : Linked). Small (offer_of r.offer)) room passes job (record { number = omega arith; place = omega arith })
-    (λ number place e. let near = subst (Near 20920) e (job_read_near job) in record { number = omega (arith, near.1); place = near.2 })
+    (λ r e. let near = subst (Near 20920) e (job_read_near job) in record { number = omega (arith, near.1); place = near.2 })
     (record { number = omega arith; place = omega arith }) (λ cell h. record { number = omega arith; place = omega arith })
     (λ h. record { number = omega arith; place = omega arith })
     (λ j s p A. counting_small p (written_after room j s).outcome (proposal_small room j A (linked_words j s)))

@@ -9,14 +9,14 @@ use Rattle.exports.specs.Exports.{export_text, Rated, export_of, rates_of}
 use Rattle.exports.proofs.Texts.{export_cases}
 use Rattle.exports.proofs.Handed.{rates_cases}
 use Rattle.bench.specs.Calls.{outcome_of}
-use Rattle.bench.proofs.Small.{Small}
+use Rattle.bench.proofs.Small.{Small, refused_small}
 use Rattle.bench.proofs.Outcomes.{in_room_small, write_small}
 use Rattle.std.specs.Prelude.{Ok, Err}
+use Rattle.refusals.specs.declared.Refusal.{Refusal}
+use Rattle.refusals.specs.Refusals.{number_of, place_of}
 
-line_small : (claims : Bool) (number place : ℕ) → LineNumber claims number → place ≤ 122 → Small (outcome_of (Err r))
-line_small claims number place (inl e) h = record { number = omega (arith, e); place = omega arith }
-line_small claims number place (inr (inl e)) h = record { number = omega (arith, e); place = omega arith }
-line_small claims number place (inr (inr e)) h = record { number = omega (arith, e.0); place = omega arith }
+line_small : (claims : Bool) (r : Refusal) → LineNumber claims (number_of r) → place_of r ≤ 122 → Small (outcome_of (Err r))
+line_small claims r e h = refused_small r (omega arith)
 
 pub import_small : (g : Given) (room : ℕ) (text : List ℕ) → Small (outcome_of (import_of g room text).outcome)
 import_small g room text =

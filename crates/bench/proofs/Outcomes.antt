@@ -20,7 +20,11 @@ use Rattle.checked.specs.Answers.{answer_of}
 use Rattle.bench.specs.Calls.{outcome_of}
 use Rattle.bench.proofs.Small.{Small, check_small}
 use Rattle.std.specs.Prelude.{Ok, Err}
+use Rattle.refusals.specs.declared.Refusal.{Refusal}
+use Rattle.refusals.specs.Refusals.{number_of, place_of}
 use Rattle.refusals.specs.declared.Refusal.TheVariants.{NoRoom}
+use Rattle.refusals.specs.declared.Refusal.{Refusal}
+use Rattle.refusals.specs.Refusals.{number_of, place_of}
 use Rattle.refusals.specs.declared.Refusal.TheVariants.{NoRoom, NotProposed}
 
 -- ---- room
@@ -91,18 +95,18 @@ propose_small room job = go (read_job job).outcome refl (job_read_near job)
 
 end_small : (count : ℕ) → count ≤ 840 → (v : Verdict) → Small (answer_of v) → Small (outcome_of (end_of count v))
 end_small count few (Ok f) s = record { number = omega arith; place = omega arith }
-end_small count few (Err r) s = go (eqb number 9)
+end_small count few (Err r) s = go (eqb (number_of r) 9)
   where
     go : (b : Bool) → Small (outcome_of (if b then Ok count else Err r))
     go true = record { number = omega arith; place = omega arith }
     go false = record { number = s.number; place = s.place }
 
 -- a refusal of the job pack's is none of a gap, so no count is told
-unread_small : (count number place : ℕ) → number ≤ 5 → place ≤ 20920 → Small (outcome_of (end_of count (Err r)))
-unread_small count number place h k = go (eqb number 9) refl
+unread_small : (count : ℕ) (r : Refusal) → number_of r ≤ 5 → place_of r ≤ 20920 → Small (outcome_of (end_of count (Err r)))
+unread_small count r h k = go (eqb (number_of r) 9) refl
   where
-    go : (b : Bool) → eqb number 9 ≡ b → Small (outcome_of (if b then Ok count else Err r))
-    go true e = absurd (omega (arith, h, eqb-true number 9 e))
+    go : (b : Bool) → eqb (number_of r) 9 ≡ b → Small (outcome_of (if b then Ok count else Err r))
+    go true e = absurd (omega (arith, h, eqb-true (number_of r) 9 e))
     go false e = record { number = omega arith; place = k }
 
 pub terms_small : (room : ℕ) (job proposal : List ℕ) → Small (outcome_of (terms_of room job proposal).outcome)
@@ -117,4 +121,4 @@ terms_small room job proposal = handed_small room _ (end_of count (check_of job 
     go : (o : Outcome) → (read_job job).outcome ≡ o → Near 20920 o → Small (outcome_of (end_of count (check_of job proposal)))
     go (Ok k) e h = let A = read_jobs_allowed job k e in end_small count (omega (arith, A.cells_few, A.links_few)) (check_of job proposal) (check_small job proposal)
     go (Err r) e h =
-        subst (λ (v : Verdict). Small (outcome_of (end_of count v))) (sym (ap (λ (o : Outcome). on_read o (proposal_verdict j proposal)) e)) (unread_small count number place h.1 h.2)
+        subst (λ (v : Verdict). Small (outcome_of (end_of count v))) (sym (ap (λ (o : Outcome). on_read o (proposal_verdict j proposal)) e)) (unread_small count r h.1 h.2)

@@ -47,7 +47,7 @@ handed_small : (room : ℕ) (v : List ℕ) (w : Verdict) → length v ≤ 120 �
 handed_small room v (Err r) h s = record { number = s.number; place = s.place }
 handed_small room v (Ok f) h s = go (leb (length v) room)
   where
-    go : (t : Bool) → Small (cond t (record { answer = record { number = 0; place = length v; loss = nat_abs F; gap = nat_abs G }; values = v }) (refusal 13 (length v))).answer
+    go : (t : Bool) → Small (cond t (record { answer = record { number = 0; place = length v; loss = nat_abs f.loss; gap = nat_abs f.gap }; values = v }) (refusal 13 (length v))).answer
     go true = record { number = omega arith; place = omega arith }
     go false = record { number = omega arith; place = omega arith }
 

@@ -17,14 +17,21 @@ use Rattle.measure.specs.Gap.{gap_of}
 use Rattle.measure.specs.Largest.{term_at, largest_place}
 use Rattle.measure.specs.Check.{Verdict, accepting, lowest_failing, in_box, holds, judged_of, verdict_of, values_of, multipliers_of, on_read, proposal_verdict, check_of}
 use Rattle.checked.specs.declared.Answer.{Answer}
-use Rattle.checked.specs.Answers.{answer_of}
+use Rattle.checked.specs.Answers.{refused, answer_of}
 use Rattle.bench.specs.Answers.{code_of}
 use Rattle.std.specs.Prelude.{Ok, Err}
-use Rattle.refusals.specs.declared.Refusal.TheVariants.{BrokenLink, GapAbove}
+use Rattle.refusals.specs.declared.Refusal.{Refusal}
+use Rattle.refusals.specs.Refusals.{number_of, place_of}
+use Rattle.refusals.specs.declared.Refusal.TheVariants.{OutsideBox, BrokenLink, GapAbove}
+use Rattle.refusals.proofs.Most.{number_most}
 
 pub record Small (a : Answer) : Type 0 where
   pub number : a.number ≤ 31
   pub place : a.place ≤ 20920
+
+-- No number of a refusal is above 22, so only its place is in question.
+pub refused_small : (r : Refusal) → place_of r ≤ 20920 → Small (refused r).answer
+refused_small r h = record { number = omega (arith, number_most r); place = h }
 
 pub code_told : {a : Answer} → Small a → code_of a % 2 ^ 64 ≡ code_of a
 code_told s = omega (arith, s.number, s.place)
@@ -39,20 +46,20 @@ judged_small j A v y = go (le_z (gap_of j v y) j.tolerance)
     go false = record { number = omega arith; place = omega (arith, largest_few (term_at j v y) (j.cells + j.links), A.cells_few, A.links_few) }
 
 -- a refusal whose place is among n, or what comes after it
-among_small : (number x n : ℕ) (later : Verdict) → number ≤ 31 → n ≤ 160 → Small (answer_of later) → Small (answer_of (if ltb x n then Err r else later))
-among_small number x n later h m l = go (ltb x n) refl
+among_small : (r : Refusal) (n : ℕ) (later : Verdict) → n ≤ 160 → Small (answer_of later) → Small (answer_of (if ltb (place_of r) n then Err r else later))
+among_small r n later m l = go (ltb (place_of r) n) refl
   where
-    go : (t : Bool) → ltb x n ≡ t → Small (answer_of (if t then Err r else later))
-    go true e = record { number = h; place = omega (arith, ltb-true x n e) }
+    go : (t : Bool) → ltb (place_of r) n ≡ t → Small (answer_of (if t then Err r else later))
+    go true e = refused_small r (omega (arith, ltb-true (place_of r) n e))
     go false e = l
 
 pub verdict_small : (j : Job) → Allowed j → (v y : ℕ → ℤ) → Small (answer_of (verdict_of j v y))
 unfolding verdict_of
 verdict_small j A v y =
-    among_small 7 (lowest_failing (in_box j v) j.cells) j.cells
+    among_small (OutsideBox (lowest_failing (in_box j v) j.cells)) j.cells
     (if ltb (lowest_failing (holds j v) j.links) j.links then Err (BrokenLink (lowest_failing (holds j v) j.links)) else judged_of j v y)
-    (omega arith) (omega (arith, A.cells_few))
-    (among_small 8 (lowest_failing (holds j v) j.links) j.links (judged_of j v y) (omega arith) A.links_few (judged_small j A v y))
+    (omega (arith, A.cells_few))
+    (among_small (BrokenLink (lowest_failing (holds j v) j.links)) j.links (judged_of j v y) A.links_few (judged_small j A v y))
 
 six_small : (o : Outcome) (later : Verdict) → Near 2800 o → Small (answer_of later) → Small (answer_of (on_read (as_six o) later))
 six_small (Ok k) later h l = l

@@ -6,7 +6,7 @@ use Rattle.jobs.specs.Packs.{read_job_into, write_job}
 use Rattle.measure.specs.Check.{check_of}
 use Rattle.terms.specs.Listing.{terms_of}
 use Rattle.house.specs.Proposal.{propose_of}
-use Rattle.linked.specs.Proposal.{Offer, linked_of}
+use Rattle.linked.specs.Proposal.{Offered, linked_of}
 use Rattle.imports.specs.declared.Given.{Given}
 use Rattle.imports.specs.Imports.{import_of}
 use Rattle.exports.specs.Exports.{export_of, rates_of}
@@ -36,7 +36,7 @@ abbrev pub ProposeSays : (job out answer : List ℕ) → (returned : ℕ) (answe
 ProposeSays job out answer = WriterSays (propose_of (length out) job) out answer
 
 -- W-207: "the count stands in F"
-abbrev pub offer_of : Offer → Answer
+abbrev pub offer_of : Offered → Answer
 offer_of (Ok o) = record { number = 0; place = o.bytes; loss = o.passes; gap = 0 }
 offer_of (Err r) = (refused r).answer
 

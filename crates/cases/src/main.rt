@@ -6,12 +6,11 @@
 // proposal pack; its line is number, place, F and G.
 #![tactic(auto)]
 
-ghost use Rattle.std.specs.Prelude.{◌≡◌, ◌≤◌, ◌<◌, length};
+ghost use Rattle.std.specs.Prelude.{◌≤◌, length};
 
 use house::proposal::propose;
-use measure::check::{Verdict, check};
-use numbers::zigzag::{Sign, sign_of};
-use packs::Outcome;
+use measure::check::check;
+use refusals::{number_of, place_of};
 use std::io::Read;
 
 // The most cases that are run: the program ends, even where its input does not.
@@ -20,98 +19,33 @@ const CASES: usize = 10000;
 // The most bytes of a pack, and the most room for a proposal. No pack that can be read is longer.
 const PACK: usize = 4096;
 
-// What cannot be written is lost, and the next case is run.
-fn put(rt: &impl Print, bytes: &[u8]) {
-    let _ = rt.write_all(bytes);
-}
-
-fn put_number(rt: &impl Print, number: u64) {
-    let _ = rt.print(number);
-}
-
-fn space(rt: &impl Print) {
-    put(rt, b" ");
-}
-
-fn line_feed(rt: &impl Print) {
-    put(rt, b"\n");
-}
-
-// An outcome's or a verdict's number and place.
-fn print_two(rt: &impl Print, number: u64, place: usize) {
-    put_number(rt, number);
-    space(rt);
-    put_number(rt, place as u64);
-}
-
-fn print_bytes(rt: &impl Print, bytes: &[u8], n: usize) {
-    let mut i = 0;
-    while i < n {
-        if i < bytes.len() {
-            space(rt);
-            put_number(rt, wide(bytes[i]) as u64);
-        }
-        i += 1;
-    }
-}
-
-// A loss or a gap. Neither is below 0: such a one would show as a sign alone.
-fn print_figure(rt: &impl Print, x: i64) {
-    space(rt);
-    match sign_of(x) {
-        Sign::Plus(n) => {
-            put_number(rt, n);
-        }
-        Sign::Minus(_) => {
-            put(rt, b"-");
-        }
-    }
-}
-
-// The proposal for a pack, into an output, and its outcome on a line.
+// The proposal for a pack, into an output, and its outcome on a line. What cannot be printed is lost, and the next case is run.
 fn print_proposal(rt: &impl Print, pack: &[u8], out: &mut [u8]) {
-    let r = propose(pack, out);
-    match r {
-        Outcome::Done(n) => {
-            print_two(rt, 0, n);
-            print_bytes(rt, out, n);
+    match propose(pack, out) {
+        Ok(n) => {
+            let _ = print!(rt; "0 {n}");
+            for byte in out.iter().take(n) {
+                let _ = print!(rt; " {byte}");
+            }
+            let _ = println!(rt; "");
         }
-        Outcome::Refused(number, place) => {
-            print_two(rt, number, place);
+        Err(r) => {
+            let _ = println!(rt; "{} {}", number_of(r), place_of(r));
         }
     }
-    line_feed(rt);
 }
 
 // The verdict on two packs, on a line.
 fn print_verdict(rt: &impl Print, job: &[u8], proposal: &[u8]) {
-    let r = check(job, proposal);
-    match r {
-        Verdict::Accepted { loss, gap } => {
-            print_two(rt, 0, 0);
-            print_figure(rt, loss);
-            print_figure(rt, gap);
-        }
-        Verdict::Refused { number, place } => {
-            print_two(rt, number, place);
-            print_figure(rt, 0);
-            print_figure(rt, 0);
-        }
-    }
-    line_feed(rt);
-}
-
-fn wide(x: u8) -> usize
-    ensures { (result ≡ x) × (result < 256) }
-{
-    x as usize
-}
-
-fn two_bytes(low: u8, high: u8) -> usize {
-    wide(low) + 256 * wide(high)
+    let _ = match check(job, proposal) {
+        Ok(figures) => println!(rt; "0 0 {} {}", figures.loss, figures.gap),
+        Err(r) => println!(rt; "{} {} 0 0", number_of(r), place_of(r)),
+    };
 }
 
 // Reads until the buffer is full or the input ends, and answers how many bytes it put at the buffer's start. A read that fails counts as the end.
+// `checker` has the same function: the libraries below both programs know nothing of input. A read may give any count,
+// so the loop is no `for`.
 fn read_full<R: Read>(from: &mut R, buf: &mut [u8]) -> usize
     ensures { result ≤ length buf.new }
 {
@@ -180,9 +114,10 @@ fn next_case(rt: &HostRuntime) -> bool {
     if n < 5 {
         return false;
     }
-    let first = two_bytes(head[1], head[2]);
-    let second = two_bytes(head[3], head[4]);
-    match head[0] {
+    let [kind, a, b, c, d] = head;
+    let first = usize::from(u16::from_le_bytes([a, b]));
+    let second = usize::from(u16::from_le_bytes([c, d]));
+    match kind {
         0 => house_case(rt, first, second),
         1 => check_case(rt, first, second),
         _ => false,

@@ -10,6 +10,8 @@ use std::io::Read;
 const READ: usize = 8193;
 
 // Reads until the buffer is full or the input ends, and answers how many bytes it put at the buffer's start. A read that fails counts as the end.
+// `cases` has the same function: the libraries below both programs know nothing of input. A read may give any count,
+// so the loop is no `for`.
 fn read_full<R: Read>(from: &mut R, buf: &mut [u8]) -> usize
     ensures { result ≤ length buf.new }
 {

@@ -26,6 +26,8 @@ use Rattle.claims.proofs.Numbers.{OneToFive, refused_one_to_five}
 use Rattle.claims.proofs.Verdict.{verdict_outside, verdict_broken, verdict_above, verdict_accepted, Ruled, outside, broken, above, accepted, ruled}
 use Rattle.std.specs.Prelude.{Ok, Err}
 use Rattle.refusals.specs.declared.Refusal.TheVariants.{BadProposal, OutsideBox, BrokenLink, GapAbove}
+use Rattle.refusals.specs.declared.Refusal.{Refusal}
+use Rattle.refusals.specs.Refusals.{number_of, place_of}
 
 module _ (job proposal : List ℕ) where
   -- ---- from what is so to the verdict
@@ -35,7 +37,7 @@ module _ (job proposal : List ℕ) where
       → gap_in job proposal ≤ℤ (job_in job).tolerance → Acceptable job proposal (loss_in job proposal) (gap_in job proposal)
   acceptable B I H h = record { both_read = B; values_in_boxes = I; links_hold = H; gap_within = h; loss_is = refl; gap_is = refl }
 
-  job_refused : {number place : ℕ} → (read_job job).outcome ≡ Err r → check_of job proposal ≡ Err r
+  job_refused : {r : Refusal} → (read_job job).outcome ≡ Err r → check_of job proposal ≡ Err r
   job_refused e = ap (λ (o : Outcome). on_read o (proposal_verdict (job_in job) proposal)) e
 
   on_job_lem : Reads (read_job job).outcome → check_of job proposal ≡ proposal_verdict (job_in job) proposal
@@ -44,7 +46,7 @@ module _ (job proposal : List ℕ) where
   abbrev pub tabled : Verdict
   tabled = verdict_of (job_in job) (values_in job proposal) (multipliers_in job proposal)
 
-  proposal_refused : {number place : ℕ} → Reads (read_job job).outcome → (proposal_in job proposal).outcome ≡ Err r
+  proposal_refused : {r : Refusal} → Reads (read_job job).outcome → (proposal_in job proposal).outcome ≡ Err r
       → check_of job proposal ≡ Err r
   proposal_refused r e = on_job_lem r ∙ ap (λ (o : Outcome). on_read o tabled) e
 
@@ -65,7 +67,7 @@ module _ (job proposal : List ℕ) where
   is_above : {place : ℕ} → Above job proposal place → check_of job proposal ≡ Err (GapAbove place)
   is_above o =
       on_both o.both_read ∙ verdict_above (job_in job) _ _ o.values_in_boxes o.links_hold o.gap_above
-      ∙ ap ((λ p. Err (GapAbove p))) (largest_one (largest_in (omega (arith, o.largest_term.among))) o.largest_term)
+      ∙ ap {B = Verdict} (λ (p : ℕ). Err (GapAbove p)) (largest_one (largest_in (omega (arith, o.largest_term.among))) o.largest_term)
 
   is_accepted : {F G : ℤ} → Acceptable job proposal F G → check_of job proposal ≡ accepting F G
   is_accepted o =
@@ -75,23 +77,23 @@ module _ (job proposal : List ℕ) where
   -- ---- from the verdict to what is so
 
   -- what a refusal says, by whether its number is at most 5, or is 6, 7, 8 or 9; and what any verdict says
-  abbrev Refusal : (five six seven eight nine : Bool) (number place : ℕ) → Type 0
-  Refusal five six seven eight nine number place =
-      cond five (OneToFive number × ((read_job job).outcome ≡ Err r))
+  abbrev Refusing : (five six seven eight nine : Bool) → Refusal → Type 0
+  Refusing five six seven eight nine r =
+      cond five (OneToFive (number_of r) × ((read_job job).outcome ≡ Err r))
       (cond six (Reads (read_job job).outcome × ((proposal_in job proposal).outcome ≡ Err r))
-      (cond seven (Outside job proposal place)
-      (cond eight (Broken job proposal place)
-      (cond nine (Above job proposal place) ⊥))))
+      (cond seven (Outside job proposal (place_of r))
+      (cond eight (Broken job proposal (place_of r))
+      (cond nine (Above job proposal (place_of r)) ⊥))))
 
   abbrev Says : Verdict → Type 0
-  Says (Ok f) = Acceptable job proposal F G
-  Says (Err r) = Refusal (leb number 5) (eqb number 6) (eqb number 7) (eqb number 8) (eqb number 9) number place
+  Says (Ok f) = Acceptable job proposal f.loss f.gap
+  Says (Err r) = Refusing (leb (number_of r) 5) (eqb (number_of r) 6) (eqb (number_of r) 7) (eqb (number_of r) 8) (eqb (number_of r) 9) r
 
   says_so : {o : Verdict} → check_of job proposal ≡ o → Says o → Says (check_of job proposal)
   says_so e h = subst Says (sym e) h
 
-  first_five : (number place : ℕ) → number ≤ 5 → Says (Err r) ≡ (OneToFive number × ((read_job job).outcome ≡ Err r))
-  first_five number place h = rw (le-leb number 5 h)
+  first_five : (r : Refusal) → number_of r ≤ 5 → Says (Err r) ≡ (OneToFive (number_of r) × ((read_job job).outcome ≡ Err r))
+  first_five r h = rw (le-leb (number_of r) 5 h)
 
   -- the check's own verdict says what is so
   on_table : BothRead job proposal → Says (check_of job proposal)
@@ -117,8 +119,8 @@ module _ (job proposal : List ℕ) where
     where
       go : (o : Outcome) → (read_from (values_from (job_in job).cells (job_in job).links) proposal).outcome ≡ o → Says (check_of job proposal)
       go (Ok k) e = on_table record { job_reads = r; proposal_reads = (k, ap as_six e) }
-      go (Err r) e =
-          let six : (proposal_in job proposal).outcome ≡ Err (BadProposal place) = ap as_six e in says_so (proposal_refused r six) (r, six)
+      go (Err b) e =
+          let six : (proposal_in job proposal).outcome ≡ Err (BadProposal (place_of b)) = ap as_six e in says_so (proposal_refused r six) (r, six)
 
   says : Says (check_of job proposal)
   says = go (read_job job).outcome refl
@@ -126,8 +128,8 @@ module _ (job proposal : List ℕ) where
       go : (o : Outcome) → (read_job job).outcome ≡ o → Says (check_of job proposal)
       go (Ok k) e = on_proposal (k, e)
       go (Err r) e =
-          let h : OneToFive number = refused_one_to_five job number place e in
-          says_so (job_refused e) (subst (λ (A : Type 0). A) (sym (first_five number place h.1)) (h, e))
+          let h : OneToFive (number_of r) = refused_one_to_five job r e in
+          says_so (job_refused e) (subst (λ (A : Type 0). A) (sym (first_five r h.1)) (h, e))
 
 -- ---- the promises
 
@@ -135,8 +137,8 @@ pub accepted_exactly : AcceptedExactly
 accepted_exactly job proposal F G = (λ e. subst (Says job proposal) e (says job proposal), is_accepted job proposal)
 
 pub job_refused_exactly : JobRefusedExactly
-job_refused_exactly job proposal number place h =
-    (λ e. (subst (λ (A : Type 0). A) (first_five job proposal number place h) (subst (Says job proposal) e (says job proposal))).1, job_refused job proposal)
+job_refused_exactly job proposal r h =
+    (λ e. (subst (λ (A : Type 0). A) (first_five job proposal r h) (subst (Says job proposal) e (says job proposal))).1, job_refused job proposal)
 
 pub proposal_refused_exactly : ProposalRefusedExactly
 proposal_refused_exactly job proposal place =
@@ -152,11 +154,14 @@ pub above_exactly : AboveExactly
 above_exactly job proposal place = (λ e. subst (Says job proposal) e (says job proposal), is_above job proposal)
 
 pub no_other_refusal : NoOtherRefusal
-no_other_refusal job proposal number place e =
-    go (leb number 5) (eqb number 6) (eqb number 7) (eqb number 8) (eqb number 9) refl refl refl refl refl (subst (Says job proposal) e (says job proposal))
+no_other_refusal job proposal b e =
+    go (leb (number_of b) 5) (eqb (number_of b) 6) (eqb (number_of b) 7) (eqb (number_of b) 8) (eqb (number_of b) 9) refl refl refl refl refl (subst (Says job proposal) e (says job proposal))
   where
-    go : (a b c d f : Bool) → leb number 5 ≡ a → eqb number 6 ≡ b → eqb number 7 ≡ c → eqb number 8 ≡ d → eqb number 9 ≡ f
-        → Refusal job proposal a b c d f number place → (1 ≤ number) × (number ≤ 9)
+    number : ℕ
+    number = number_of b
+
+    go : (a b' c d f : Bool) → leb number 5 ≡ a → eqb number 6 ≡ b' → eqb number 7 ≡ c → eqb number 8 ≡ d → eqb number 9 ≡ f
+        → Refusing job proposal a b' c d f b → (1 ≤ number) × (number ≤ 9)
     go true b c d f p q r s t h = (h.0.0, omega (arith, h.0.1))
     go false true c d f p q r s t h = let e : number ≡ 6 = eqb-true number 6 q in (omega arith, omega arith)
     go false false true d f p q r s t h = let e : number ≡ 7 = eqb-true number 7 r in (omega arith, omega arith)

@@ -120,7 +120,7 @@ out_handed : (room : ℕ) (v : List ℕ) (w : Verdict) → Handed (handedTo room
 out_handed room v (Err r) = omega arith
 out_handed room v (Ok f) = go (leb (length v) room)
   where
-    go : (t : Bool) → Handed (cond t (record { answer = record { number = 0; place = length v; loss = nat_abs F; gap = nat_abs G }; values = v }) (refusal 13 (length v)))
+    go : (t : Bool) → Handed (cond t (record { answer = record { number = 0; place = length v; loss = nat_abs f.loss; gap = nat_abs f.gap }; values = v }) (refusal 13 (length v)))
     go true = omega arith
     go false = omega arith
 

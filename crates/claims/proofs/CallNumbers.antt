@@ -51,7 +51,7 @@ check_number job proposal = go (check_of job proposal) refl
   where
     go : (v : Verdict) → check_of job proposal ≡ v → Among (13 ∷ []) 9 (answer_of v).number
     go (Ok f) e = inr (omega arith)
-    go (Err r) e = inr (no_other_refusal job proposal number place e).1
+    go (Err r) e = inr (no_other_refusal job proposal r e).1
 
 -- ---- packs
 
@@ -155,7 +155,7 @@ handed_out_number : (room : ℕ) (v : List ℕ) (w : Verdict) → Nine w → Pre
 handed_out_number room v (Err r) h = inr (inr (inr h))
 handed_out_number room v (Ok f) h = go (leb (length v) room)
   where
-    go : (b : Bool) → Presented (cond b (record { answer = record { number = 0; place = length v; loss = nat_abs F; gap = nat_abs G }; values = v }) (refusal 13 (length v)))
+    go : (b : Bool) → Presented (cond b (record { answer = record { number = 0; place = length v; loss = nat_abs f.loss; gap = nat_abs f.gap }; values = v }) (refusal 13 (length v)))
     go true = inr (inr (inr (omega arith)))
     go false = inr (inl refl)
 

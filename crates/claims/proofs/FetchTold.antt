@@ -178,7 +178,7 @@ whole_behind l ok job room shelf len n = go (read_job job).outcome refl n
     go (Ok k) e m =
         let s = (job_in job).society in
         span_behind job k e room l.words (l.count s) (span_of l s shelf) ok.wide (span_length l ok s shelf len (read_jobs_allowed job k e).society) m
-    go (Err r) e m = absurd (omega (arith, m, (no_other_refusal job [] number place (ap (λ (o : Outcome). on_read o (proposal_verdict (job_in job) [])) e)).0))
+    go (Err r) e m = absurd (omega (arith, m, (no_other_refusal job [] r (ap (λ (o : Outcome). on_read o (proposal_verdict (job_in job) [])) e)).0))
 
 any_behind : (shelf job : List ℕ) (room : ℕ) → Behind job (said shelf (own (fetch job room)))
 any_behind shelf job room n = go (test_shelf (row_in shelf) shelf) refl n

@@ -35,28 +35,31 @@ use Rattle.claims.proofs.Beyond.{Within}
 use Rattle.claims.proofs.Sides.{side_told}
 use Rattle.claims.proofs.Accepted.{above_exactly, no_other_refusal}
 use Rattle.std.specs.Prelude.{Ok, Err}
+use Rattle.refusals.specs.declared.Refusal.{Refusal}
+use Rattle.refusals.specs.declared.Refusal.TheVariants.{NoRoom}
+use Rattle.refusals.specs.Refusals.{number_of}
 
 -- ---- a refusal with its number, or all words and room for them
 
-module _ (P : Ran → Type 0) (refuse : (number place : ℕ) → 1 ≤ number → Among (13 ∷ []) 8 number → P (record { words = []; outcome = Err r }))
+module _ (P : Ran → Type 0) (refuse : (r : Refusal) → 1 ≤ number_of r → Among (13 ∷ []) 8 (number_of r) → P (record { words = []; outcome = Err r }))
     (room count : ℕ) (ws : List ℤ) (done : count ≤ room → P (record { words = ws; outcome = Ok count })) where
   room_cases : P (handed_out room ws (Ok count))
   room_cases = go (ltb room count) refl
     where
       go : (t : Bool) → ltb room count ≡ t → P (handed count ws t)
-      go true e = refuse 13 count (omega arith) (inl refl)
+      go true e = refuse (NoRoom count) (omega arith) (inl refl)
       go false e = done (ltb-false room count e)
 
-  end_cases : (v : Verdict) → ((number place : ℕ) → v ≡ Err r → (1 ≤ number) × (number ≤ 9)) → P (handed_out room ws (end_of count v))
+  end_cases : (v : Verdict) → ((r : Refusal) → v ≡ Err r → (1 ≤ number_of r) × (number_of r ≤ 9)) → P (handed_out room ws (end_of count v))
   end_cases (Ok f) few = room_cases
-  end_cases (Err r) few = go (eqb number 9) refl
+  end_cases (Err r) few = go (eqb (number_of r) 9) refl
     where
-      go : (b : Bool) → eqb number 9 ≡ b → P (handed_out room ws (if b then Ok count else Err r))
+      go : (b : Bool) → eqb (number_of r) 9 ≡ b → P (handed_out room ws (if b then Ok count else Err r))
       go true e = room_cases
-      go false e = refuse number place (few number place refl).0 (inr (omega (arith, (few number place refl).1, other)))
+      go false e = refuse r (few r refl).0 (inr (omega (arith, (few r refl).1, other)))
         where
-          other : number ≡ 9 → ⊥
-          other q = true≢false (sym (eq-eqb number 9 q) ∙ e)
+          other : number_of r ≡ 9 → ⊥
+          other q = true≢false (sym (eq-eqb (number_of r) 9 q) ∙ e)
 
 module _ (room : ℕ) (job proposal : List ℕ) where
   abbrev count : ℕ
@@ -65,25 +68,25 @@ module _ (room : ℕ) (job proposal : List ℕ) where
   abbrev words : List ℤ
   words = entries (job_in job) (values_in job proposal) (multipliers_in job proposal) ((job_in job).cells + (job_in job).links)
 
-  terms_cases : (P : Ran → Type 0) → ((number place : ℕ) → 1 ≤ number → Among (13 ∷ []) 8 number → P (record { words = []; outcome = Err r }))
+  terms_cases : (P : Ran → Type 0) → ((r : Refusal) → 1 ≤ number_of r → Among (13 ∷ []) 8 (number_of r) → P (record { words = []; outcome = Err r }))
       → (count ≤ room → P (record { words = words; outcome = Ok count })) → P (terms_of room job proposal)
   terms_cases P refuse done = end_cases P refuse room count words done (check_of job proposal) (no_other_refusal job proposal)
 
   pub terms_number : Among (13 ∷ []) 8 (outcome_of (terms_of room job proposal).outcome).number
-  terms_number = terms_cases (λ (m : Ran). Among (13 ∷ []) 8 (outcome_of m.outcome).number) (λ number place s a. a) (λ h. inr (omega arith))
+  terms_number = terms_cases (λ (m : Ran). Among (13 ∷ []) 8 (outcome_of m.outcome).number) (λ r s a. a) (λ h. inr (omega arith))
 
   pub terms_kept : (before : List ℤ) → Kept (outcome_of (terms_of room job proposal).outcome) before (sets before 0 (terms_of room job proposal).words)
   terms_kept before =
-      terms_cases (λ (m : Ran). Kept (outcome_of m.outcome) before (sets before 0 m.words)) (λ number place s a n. (refl, refl, refl)) (λ h n. absurd (n refl))
+      terms_cases (λ (m : Ran). Kept (outcome_of m.outcome) before (sets before 0 m.words)) (λ r s a n. (refl, refl, refl)) (λ h n. absurd (n refl))
 
   pub terms_within : Within (terms_of room job proposal).outcome (terms_of room job proposal).words
   terms_within =
-      terms_cases (λ (m : Ran). Within m.outcome m.words) (λ number place s a. omega arith)
+      terms_cases (λ (m : Ran). Within m.outcome m.words) (λ r s a. omega arith)
       (λ h. N.le_of_eq (entries_count (job_in job) (values_in job proposal) (multipliers_in job proposal) ((job_in job).cells + (job_in job).links)))
 
   terms_whole : (outcome_of (terms_of room job proposal).outcome).number ≡ 0 → ((terms_of room job proposal).words ≡ words) × (count ≤ room)
   terms_whole =
-      terms_cases (λ (m : Ran). (outcome_of m.outcome).number ≡ 0 → (m.words ≡ words) × (count ≤ room)) (λ number place s a z. absurd (omega (arith, s, z))) (λ h z. (refl, h))
+      terms_cases (λ (m : Ran). (outcome_of m.outcome).number ≡ 0 → (m.words ≡ words) × (count ≤ room)) (λ r s a z. absurd (omega (arith, s, z))) (λ h z. (refl, h))
 
 -- ---- the sum of the terms, and the largest
 

@@ -19,6 +19,9 @@ use Rattle.claims.specs.HousePromises.{HouseUnprivileged}
 use Rattle.claims.proofs.Accepted.{job_refused_exactly, proposal_refused_exactly, outside_exactly}
 use Rattle.std.specs.Prelude.{Ok, Err}
 use Rattle.packs.specs.Reading.{Outcome}
+use Rattle.refusals.specs.declared.Refusal.{Refusal}
+use Rattle.refusals.specs.declared.Refusal.TheVariants.{Unreadable, NotAllowed, FloorAbove, TooFewWeights, BadTerm, BadProposal, OutsideBox, BrokenLink, GapAbove, TooThin, NoSociety, NothingKept, NoRoom, NotReached, BadLine, OutOfSequence, DeathsAbove, NoDivisor, NotProposed, PassesNotAllowed, CountsNotAllowed}
+use Rattle.refusals.specs.Refusals.{number_of}
 
 -- whatever the house proposes is a proposal pack that reads back, with values inside their boxes and multipliers 0
 pub house_fits : ProposalsFit
@@ -30,7 +33,7 @@ job_reads room ws (Ok k) n e = (k, refl)
 job_reads room ws (Err r) n e = clash (cc)
 
 pub house_unprivileged : HouseUnprivileged
-house_unprivileged room job n e number place c = go (leb number 5) (eqb number 6) (eqb number 7) refl refl refl
+house_unprivileged room job n e r c = go r c
   where
     proposal : List ℕ
     proposal = (propose_of room job).bytes
@@ -41,20 +44,34 @@ house_unprivileged room job n e number place c = go (leb number 5) (eqb number 6
     fit : Fit (job_in job) (proposal_in job proposal)
     fit = house_fits room job n e
 
-    not_refused : {o : Outcome} {k i p : ℕ} → o ≡ Ok k → o ≡ Err r → 8 ≤ number
+    not_refused : {o : Outcome} {k n : ℕ} {r : Refusal} → o ≡ Ok k → o ≡ Err r → 8 ≤ n
     not_refused d r = clash (cc)
 
-    not_outside : Outside job proposal place → 8 ≤ number
-    not_outside o = absurd (o.lowest_cell.itself (fit.above place o.lowest_cell.among, fit.below place o.lowest_cell.among))
+    not_outside : {place n : ℕ} → Outside job proposal place → 8 ≤ n
+    not_outside {place} o = absurd (o.lowest_cell.itself (fit.above place o.lowest_cell.among, fit.below place o.lowest_cell.among))
 
-    numbered : (k : ℕ) → number ≡ k → check_of job proposal ≡ Err r
-    numbered k q = subst (λ (i : ℕ). check_of job proposal ≡ Err r) q c
+    early : (r : Refusal) → number_of r ≤ 5 → check_of job proposal ≡ Err r → 8 ≤ number_of r
+    early r h c = not_refused reads.1 ((job_refused_exactly job proposal r h).0 c)
 
-    go : (a b d : Bool) → leb number 5 ≡ a → eqb number 6 ≡ b → eqb number 7 ≡ d → 8 ≤ number
-    go true b d h s t = not_refused reads.1 ((job_refused_exactly job proposal number place (leb-true number 5 h)).0 c)
-    go false true d h s t = not_refused fit.whole ((proposal_refused_exactly job proposal place).0 (numbered 6 (eqb-true number 6 s))).1
-    go false false true h s t = not_outside ((outside_exactly job proposal place).0 (numbered 7 (eqb-true number 7 t)))
-    go false false false h s t = above_seven (leb-false number 5 h) (eqb-false number 6 s) (eqb-false number 7 t)
-      where
-        above_seven : 5 < number → (number ≡ 6 → ⊥) → (number ≡ 7 → ⊥) → 8 ≤ number
-        above_seven h s t = omega arith
+    go : (r : Refusal) → check_of job proposal ≡ Err r → 8 ≤ number_of r
+    go (Unreadable at) c = early (Unreadable at) (omega arith) c
+    go (NotAllowed at) c = early (NotAllowed at) (omega arith) c
+    go (FloorAbove at) c = early (FloorAbove at) (omega arith) c
+    go TooFewWeights c = early TooFewWeights (omega arith) c
+    go (BadTerm at) c = early (BadTerm at) (omega arith) c
+    go (BadProposal at) c = not_refused fit.whole ((proposal_refused_exactly job proposal at).0 c).1
+    go (OutsideBox at) c = not_outside ((outside_exactly job proposal at).0 c)
+    go (BrokenLink at) c = omega arith
+    go (GapAbove at) c = omega arith
+    go (TooThin at) c = omega arith
+    go NoSociety c = omega arith
+    go NothingKept c = omega arith
+    go (NoRoom at) c = omega arith
+    go (NotReached at) c = omega arith
+    go (BadLine at) c = omega arith
+    go (OutOfSequence at) c = omega arith
+    go (DeathsAbove at) c = omega arith
+    go NoDivisor c = omega arith
+    go NotProposed c = omega arith
+    go PassesNotAllowed c = omega arith
+    go (CountsNotAllowed at) c = omega arith

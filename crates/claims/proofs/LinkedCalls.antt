@@ -20,6 +20,8 @@ use Rattle.claims.proofs.CallNumbers.{room_number}
 use Rattle.claims.proofs.Beyond.{proposal_within}
 use Rattle.std.specs.Prelude.{Ok, Err}
 use Rattle.packs.specs.Reading.{Outcome}
+use Rattle.refusals.specs.declared.Refusal.{Refusal}
+use Rattle.refusals.specs.Refusals.{number_of}
 
 module _ (room passes : ℕ) (job : List ℕ) where
   -- ---- numbers
@@ -33,7 +35,7 @@ module _ (room passes : ℕ) (job : List ℕ) where
   pub linked_number : LinkedNumber (offer_of (linked_of room passes job).offer).number
   linked_number =
       linked_cases (λ (r : Linked). LinkedNumber (offer_of r.offer).number) room passes job (inr (inr (inr (inr (inl refl)))))
-      (λ number place e. inr (inr (inr (inr (inr (refused_one_to_five job number place e).1))))) (inr (inr (inr (inl refl)))) (λ cell h. inl refl)
+      (λ r e. inr (inr (inr (inr (inr (refused_one_to_five job r e).1))))) (inr (inr (inr (inl refl)))) (λ cell h. inl refl)
       (λ h. inr (inr (inl refl)))
       (λ j s p A.
       let w = write_proposal j.cells j.links (linked_words j s) in
@@ -44,12 +46,12 @@ module _ (room passes : ℕ) (job : List ℕ) where
   -- ---- refusals
   same_kept : (p : ℕ) (o : Outcome) {before after : List ℕ} → Kept (outcome_of o) before after → Kept (offer_of (counting p o)) before after
   same_kept p (Ok n) k r = absurd (r refl)
-  same_kept p (Err r) k r = k r
+  same_kept p (Err b) k r = k r
 
   pub linked_kept : (before : List ℕ) → Kept (offer_of (linked_of room passes job).offer) before (sets before 0 (linked_of room passes job).bytes)
   linked_kept before =
       linked_cases (λ (r : Linked). Kept (offer_of r.offer) before (sets before 0 r.bytes)) room passes job (λ n. (refl, refl, refl))
-      (λ number place e n. (refl, refl, refl)) (λ n. (refl, refl, refl)) (λ cell h n. (refl, refl, refl)) (λ h n. (refl, refl, refl))
+      (λ r e n. (refl, refl, refl)) (λ n. (refl, refl, refl)) (λ cell h n. (refl, refl, refl)) (λ h n. (refl, refl, refl))
       (λ j s p A. same_kept p (written_after room j s).outcome (write_kept room (write_proposal j.cells j.links (linked_words j s)) before))
 
   -- ---- outputs
@@ -59,14 +61,14 @@ module _ (room passes : ℕ) (job : List ℕ) where
 
   pub linked_within : length (linked_of room passes job).bytes ≤ (offer_of (linked_of room passes job).offer).place
   linked_within =
-      linked_cases (λ (r : Linked). length r.bytes ≤ (offer_of r.offer).place) room passes job (omega arith) (λ number place e. omega arith) (omega arith)
+      linked_cases (λ (r : Linked). length r.bytes ≤ (offer_of r.offer).place) room passes job (omega arith) (λ r e. omega arith) (omega arith)
       (λ cell h. omega arith) (λ h. omega arith)
       (λ j s p A. same_place p (written_after room j s).outcome (written_after room j s).bytes (proposal_within room j (linked_words j s)))
 
   -- ---- a refusal's number is none of success
-  pub linked_refused : {number place : ℕ} → (linked_of room passes job).offer ≡ Err r → 1 ≤ number
-  linked_refused {number} {place} =
-      linked_cases (λ (r : Linked). r.offer ≡ Err r → 1 ≤ number) room passes job (λ e. let q : 21 ≡ number = cc in omega arith)
-      (λ a b f e. let q : a ≡ number = cc in omega (arith, (refused_one_to_five job a b f).0)) (λ e. let q : 20 ≡ number = cc in omega arith)
-      (λ cell h e. let q : 10 ≡ number = cc in omega arith) (λ h e. let q : 14 ≡ number = cc in omega arith)
+  pub linked_refused : {r : Refusal} → (linked_of room passes job).offer ≡ Err r → 1 ≤ number_of r
+  linked_refused {r} =
+      linked_cases (λ (m : Linked). m.offer ≡ Err r → 1 ≤ number_of r) room passes job (λ e. let q : 21 ≡ number_of r = cc in omega arith)
+      (λ b f e. let q : number_of b ≡ number_of r = cc in omega (arith, q, (refused_one_to_five job b f).0)) (λ e. let q : 20 ≡ number_of r = cc in omega arith)
+      (λ cell h e. let q : 10 ≡ number_of r = cc in omega arith) (λ h e. let q : 14 ≡ number_of r = cc in omega arith)
       (λ j s p A e. omega (arith, written_room room (linked_words j s) (linked_proposed j s A) (counting_refused p (written_after room j s).outcome e)))

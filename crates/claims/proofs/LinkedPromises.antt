@@ -10,7 +10,7 @@ use lib.Seq.{sets}
 use Rattle.measure.specs.Check.{accepting, check_of}
 use Rattle.checked.specs.declared.Answer.{Answer}
 use Rattle.checked.specs.Answers.{answer_of}
-use Rattle.linked.specs.Proposal.{Offer, proposing, Linked, linked_of}
+use Rattle.linked.specs.Proposal.{Offered, Linked, linked_of}
 use Rattle.linked.specs.Promises.{NoneAccepted}
 use Rattle.linked.proofs.Cases.{passes_counted, pass_written, linked_accepted, more_passes_same, fourteen_exactly}
 use Rattle.bench.specs.Answers.{code_of, answer_words, has_four, Says}
@@ -24,6 +24,8 @@ use Rattle.claims.proofs.ListPromises.{front}
 use Rattle.claims.proofs.LinkedCalls.{linked_refused}
 use Rattle.std.specs.Prelude.{Ok, Err}
 use Rattle.refusals.specs.declared.Refusal.TheVariants.{NotReached}
+use Rattle.refusals.specs.Refusals.{number_of, place_of}
+use Rattle.refusals.proofs.Most.{fourteen}
 
 -- ---- what was found
 
@@ -31,8 +33,8 @@ use Rattle.refusals.specs.declared.Refusal.TheVariants.{NotReached}
 checked_of_lem : (job pack : List ℕ) (loss gap : ℤ) → check_of job pack ≡ accepting loss gap → (answer : List ℕ) (r : ℕ) (a : List ℕ) → CheckSays job pack answer r a → has_four answer ≡ true
     → (r ≡ 0) × ToldBest job pack 0 a
 checked_of_lem job pack loss gap e answer r a says four =
-    let same : answer_of (check_of job pack) ≡ answer_of (Ok f) = ap {B = Answer} answer_of e in
-    (says.returns ∙ rw (four, same), told_of job pack a (Ok f) e refl (says.answers ∙ rw (four, same)))
+    let same : answer_of (check_of job pack) ≡ answer_of (accepting loss gap) = ap {B = Answer} answer_of e in
+    (says.returns ∙ rw (four, same), told_of job pack a (accepting loss gap) e refl (says.answers ∙ rw (four, same)))
 
 pub linked_found : LinkedFound
 linked_found job passes out answer r a x says z = go (linked_of (length out) passes job).offer refl
@@ -43,19 +45,19 @@ linked_found job passes out answer r a x says z = go (linked_of (length out) pas
     t : ((offer_of made.offer).number ≡ 0) × (a ≡ answer_words (offer_of made.offer)) × (x ≡ sets out 0 made.bytes)
     t = told_by (linked_small (length out) passes job) says z
 
-    go : (o : Offer) → made.offer ≡ o → LinkedTold job passes (r / 32) a (take (r / 32) x)
-    go (Err r) e =
-        let none : number ≡ 0 = ap {B = ℕ} (λ (o : Offer). (offer_of o).number) (sym e) ∙ t.0 in
+    go : (o : Offered) → made.offer ≡ o → LinkedTold job passes (r / 32) a (take (r / 32) x)
+    go (Err b) e =
+        let none : number_of b ≡ 0 = ap {B = ℕ} (λ (o : Offered). (offer_of o).number) (sym e) ∙ t.0 in
         absurd (omega (arith, none, linked_refused (length out) passes job e))
     go (Ok o) e =
-        let w = pass_written (length out) passes job n count e in
-        let c = linked_accepted (length out) passes job n count e in
-        let at : r / 32 ≡ n = place_by (linked_small (length out) passes job) says z ∙ ap {B = ℕ} (λ (o : Offer). (offer_of o).place) e in
+        let w = pass_written (length out) passes job o.bytes o.passes e in
+        let c = linked_accepted (length out) passes job o.bytes o.passes e in
+        let at : r / 32 ≡ o.bytes = place_by (linked_small (length out) passes job) says z ∙ ap {B = ℕ} (λ (o : Offered). (offer_of o).place) e in
         let pack : take (r / 32) x ≡ made.bytes = rw (at, t.2) (front made.bytes out w.long w.room_for) in
         record {
-          count = count;
+          count = o.passes;
           words = t.1 ∙ rw (e, at);
-          first = passes_counted (length out) passes job n count e;
+          first = passes_counted (length out) passes job o.bytes o.passes e;
           checked = rw pack (checked_of_lem job made.bytes c.0 c.1.0 c.1.1);
         }
 
@@ -75,7 +77,7 @@ more_passes_told job passes more out answer r s a b x y says later some within f
     given : has_four answer ≡ true → (linked_of room passes job).offer ≡ Err (NotReached passes) → ⊥
     given e h =
         let code : r ≡ code_of (offer_of (linked_of room passes job).offer) = says.returns ∙ rw e in
-        let fourteen : r ≡ 32 * passes + 14 = code ∙ ap {B = ℕ} (λ (o : Offer). code_of (offer_of o)) h in
+        let fourteen : r ≡ 32 * passes + 14 = code ∙ ap {B = ℕ} (λ (o : Offered). code_of (offer_of o)) h in
         other (omega (arith, fourteen))
 
     go : (t : Bool) → has_four answer ≡ t → (r ≡ s) × (a ≡ b) × (x ≡ y)
@@ -94,15 +96,15 @@ fourteen_told job passes out answer r a x says four = (λ h. go (linked_of room 
     code : r ≡ code_of (offer_of (linked_of room passes job).offer)
     code = says.returns ∙ rw four
 
-    told : {o : Offer} → (linked_of room passes job).offer ≡ o → r ≡ code_of (offer_of o)
-    told e = code ∙ ap {B = ℕ} (λ (o : Offer). code_of (offer_of o)) e
+    told : {o : Offered} → (linked_of room passes job).offer ≡ o → r ≡ code_of (offer_of o)
+    told e = code ∙ ap {B = ℕ} (λ (o : Offered). code_of (offer_of o)) e
 
-    go : (o : Offer) → (linked_of room passes job).offer ≡ o → r % 32 ≡ 14 → (r ≡ 32 * passes + 14) × NoneAccepted job passes passes
+    go : (o : Offered) → (linked_of room passes job).offer ≡ o → r % 32 ≡ 14 → (r ≡ 32 * passes + 14) × NoneAccepted job passes passes
     go (Ok o) e h = absurd (omega (arith, told e, h))
-    go (Err r) e h =
-        let low : number ≤ 31 = subst (λ (o : Offer). (offer_of o).number ≤ 31) e (linked_small room passes job).number in
-        let is : number ≡ 14 = omega (arith, told e, h, low) in
-        let none = (fourteen_exactly room passes job place).0 (e ∙ ap (λ (k : ℕ). Err r) is) in
+    go (Err b) e h =
+        let low : number_of b ≤ 31 = subst (λ (o : Offered). (offer_of o).number ≤ 31) e (linked_small room passes job).number in
+        let is : number_of b ≡ 14 = omega (arith, told e, h, low) in
+        let none = (fourteen_exactly room passes job (place_of b)).0 (e ∙ ap {B = Offered} Err (fourteen b is)) in
         (omega (arith, told e, is, none.place_is), subst (NoneAccepted job passes) none.place_is none)
 
     back : NoneAccepted job passes passes → r ≡ 32 * passes + 14

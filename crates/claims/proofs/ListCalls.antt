@@ -12,6 +12,7 @@ use lib.Seq.{sets}
 use Rattle.numbers.proofs.Clash.{clash}
 use Rattle.packs.specs.Writing.{Written}
 use Rattle.jobs.specs.Packs.{write_job}
+use Rattle.refusals.specs.Refusals.{number_of}
 use Rattle.lists.proofs.Near.{LineNumber}
 use Rattle.imports.specs.declared.Given.{Given}
 use Rattle.imports.specs.Imports.{words_of, import_of}
@@ -27,6 +28,7 @@ use Rattle.claims.proofs.Beyond.{Within, room_within, write_within}
 use Rattle.claims.proofs.CallNumbers.{room_number}
 use Rattle.std.specs.Prelude.{Ok, Err}
 use Rattle.packs.specs.Reading.{Outcome}
+use Rattle.refusals.specs.Refusals.{number_of}
 
 -- ---- numbers
 abbrev ImportNumber : ℕ → Type 0
@@ -45,7 +47,7 @@ two_to_four number lo hi = go (eqb number 2) (eqb number 3) refl refl
 
 from_writer : (o : Outcome) → Own o → ImportNumber (outcome_of o).number
 from_writer (Ok n) h = inr (inr (inr (inr (inr (inr (inr (inr (omega arith))))))))
-from_writer (Err r) h = two_to_four number h.0 h.1
+from_writer (Err r) h = two_to_four (number_of r) h.0 h.1
 
 from_line : (number : ℕ) → LineNumber true number → ImportNumber number
 from_line number (inl e) = inr (inr (inr (inr (inl e))))
@@ -55,7 +57,7 @@ from_line number (inr (inr e)) = inr (inr (inr (inr (inr (inr (inl e.0))))))
 pub import_number : (g : Given) (room : ℕ) (text : List ℕ) → ImportNumber (outcome_of (import_of g room text).outcome).number
 import_number g room text =
     import_cases (λ (w : Written). ImportNumber (outcome_of w.outcome).number) g room text (inr (inr (inr (inr (inr (inr (inr (inl refl))))))))
-    (λ number place l h. from_line number l)
+    (λ r l h. from_line (number_of r) l)
     (λ es ds e.
     let w = write_job (words_of g es ds) in
     room_number (2 ∷ 3 ∷ 4 ∷ 13 ∷ 16 ∷ 17 ∷ 18 ∷ 19 ∷ []) 0 room w.bytes w.outcome (inr (inr (inr (inl refl)))) (from_writer w.outcome (words_own g es ds e)))
@@ -67,7 +69,7 @@ export_number room first rates =
 
 pub rates_number : (room : ℕ) (text : List ℕ) → Among (2 ∷ 13 ∷ 16 ∷ 17 ∷ []) 0 (outcome_of (rates_of room text).outcome).number
 rates_number room text =
-    rates_cases (λ (r : Rated). Among (2 ∷ 13 ∷ 16 ∷ 17 ∷ []) 0 (outcome_of r.outcome).number) room text (λ number place l h. by_line number l) (inl refl)
+    rates_cases (λ (r : Rated). Among (2 ∷ 13 ∷ 16 ∷ 17 ∷ []) 0 (outcome_of r.outcome).number) room text (λ r l h. by_line (number_of r) l) (inl refl)
     (λ n h. inr (inl refl)) (λ n values h e. inr (inr (inr (inr (omega arith)))))
   where
     by_line : (number : ℕ) → LineNumber false number → Among (2 ∷ 13 ∷ 16 ∷ 17 ∷ []) 0 number
@@ -79,7 +81,7 @@ rates_number room text =
 pub import_kept : (g : Given) (room : ℕ) (text before : List ℕ) → Kept (outcome_of (import_of g room text).outcome) before (sets before 0 (import_of g room text).bytes)
 import_kept g room text before =
     import_cases (λ (w : Written). Kept (outcome_of w.outcome) before (sets before 0 w.bytes)) g room text (λ n. (refl, refl, refl))
-    (λ number place l h n. (refl, refl, refl))
+    (λ r l h n. (refl, refl, refl))
     (λ es ds e.
     let w = write_job (words_of g es ds) in
     write_kept room w before)
@@ -91,13 +93,13 @@ export_kept room first rates before =
 
 pub rates_kept : (room : ℕ) (text before : List ℕ) → Kept (outcome_of (rates_of room text).outcome) before (sets before 0 (rates_of room text).values)
 rates_kept room text before =
-    rates_cases (λ (r : Rated). Kept (outcome_of r.outcome) before (sets before 0 r.values)) room text (λ number place l h n. (refl, refl, refl))
+    rates_cases (λ (r : Rated). Kept (outcome_of r.outcome) before (sets before 0 r.values)) room text (λ r l h n. (refl, refl, refl))
     (λ n. (refl, refl, refl)) (λ k h n. (refl, refl, refl)) (λ k values h e n. absurd (n refl))
 
 -- ---- outputs
 pub import_within : (g : Given) (room : ℕ) (text : List ℕ) → Within (import_of g room text).outcome (import_of g room text).bytes
 import_within g room text =
-    import_cases (λ (w : Written). Within w.outcome w.bytes) g room text (omega arith) (λ number place l h. omega arith)
+    import_cases (λ (w : Written). Within w.outcome w.bytes) g room text (omega arith) (λ r l h. omega arith)
     (λ es ds e. write_within room (words_of g es ds))
 
 pub export_within : (room first : ℕ) (rates : List ℕ) → Within (export_of room first rates).outcome (export_of room first rates).bytes
@@ -107,5 +109,5 @@ export_within room first rates =
 
 pub rates_within : (room : ℕ) (text : List ℕ) → Within (rates_of room text).outcome (rates_of room text).values
 rates_within room text =
-    rates_cases (λ (r : Rated). Within r.outcome r.values) room text (λ number place l h. omega arith) (omega arith) (λ n h. omega arith)
+    rates_cases (λ (r : Rated). Within r.outcome r.values) room text (λ r l h. omega arith) (omega arith) (λ n h. omega arith)
     (λ n values h e. omega arith)

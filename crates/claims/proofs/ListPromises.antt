@@ -16,6 +16,7 @@ use Rattle.packs.specs.Reading.{Outcome, Ran}
 use Rattle.packs.specs.Writing.{Written, refused, in_room, roomed}
 use Rattle.packs.proofs.Packing.{length_written}
 use Rattle.jobs.specs.Packs.{read_job, write_job}
+use Rattle.refusals.specs.Refusals.{number_of}
 use Rattle.lists.proofs.Near.{LineNumber}
 use Rattle.imports.specs.declared.Given.{Given}
 use Rattle.imports.specs.Imports.{words_of, import_of}
@@ -55,7 +56,7 @@ front bytes out {n} e h = ap (take n) (sets-eq bytes out 0 (omega (arith, e, h))
 import_whole : (g : Given) (room : ℕ) (text : List ℕ) → (outcome_of (import_of g room text).outcome).number ≡ 0 → Whole room (import_of g room text)
 import_whole g room text =
     import_cases (λ (w : Written). (outcome_of w.outcome).number ≡ 0 → Whole room w) g room text (λ z. absurd (omega (arith, z)))
-    (λ number place l h z. never number l z)
+    (λ r l h z. never (number_of r) l z)
     (λ es ds e. made (words_of g es ds) (write_job (words_of g es ds)).outcome refl (words_own g es ds e))
   where
     never : (number : ℕ) → LineNumber true number → {X : Type 0} → number ≡ 0 → X

@@ -32,7 +32,6 @@ use Rattle.shelf.proofs.Sound.{Sound, accepted_sound, accepted_named}
 use Rattle.claims.specs.Heard.{heard, without, sent, only_own}
 use Rattle.claims.specs.LastKept.{ClearedWith}
 use Rattle.claims.proofs.Steps.{keep_step, forget_step, kept_same, forgot_same, laid_length, laid_row}
-use Rattle.std.specs.Prelude.{Option, Ok, Err}
 use Rattle.packs.specs.Reading.{Outcome}
 
 -- ---- a call names this society, or another, or none

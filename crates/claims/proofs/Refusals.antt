@@ -35,7 +35,7 @@ out_nothing room v (Err r) n = (refl, refl, refl)
 out_nothing room v (Ok f) n = go (leb (length v) room) n
   where
     given : Bool → Reply
-    given b = cond b (record { answer = record { number = 0; place = length v; loss = nat_abs F; gap = nat_abs G }; values = v }) (refusal 13 (length v))
+    given b = cond b (record { answer = record { number = 0; place = length v; loss = nat_abs f.loss; gap = nat_abs f.gap }; values = v }) (refusal 13 (length v))
 
     go : (b : Bool) → Refused (given b) → GivesNothing (given b)
     go true m = absurd (m refl)
@@ -59,7 +59,7 @@ fetch_nothing w c j room s n = go (lowest (has_job j.number) w c s) n
 
 unread_nothing : (o : Outcome) (r : Reply) → (Refused r → GivesNothing r) → Refused (on_job o r) → GivesNothing (on_job o r)
 unread_nothing (Ok k) r h n = h n
-unread_nothing (Err r) r h n = (refl, refl, refl)
+unread_nothing (Err b) r h n = (refl, refl, refl)
 
 module _ (w c job : ℕ) (s : List ℕ) where
   forget_nothing : Refused (forget_reply w c job s) → forgot_in w c job s ≡ s

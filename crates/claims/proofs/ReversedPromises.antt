@@ -2,10 +2,10 @@
 use Prim.Native.Nat.{ℕ, ◌%◌}
 use mathlib.Core.Path.{◌≡◌, refl, sym, ap, subst, ◌∙◌}
 use mathlib.Core.Bool.{Bool, true, false}
-use mathlib.Core.List.{List, []}
+use mathlib.Core.List.{List, [], ◌∷◌}
 use native.Mathlib.Omega.{arith}
 use lib.Dec.{ltb}
-use lib.IntN.{ℤ}
+use lib.IntN.{ℤ, nat_abs}
 use lib.ListN.{length, drop}
 use Rattle.numbers.specs.Plain.{number_in, bytes_in}
 use Rattle.std.specs.Prelude.{if◌then◌else◌}
@@ -42,6 +42,8 @@ use Rattle.claims.proofs.Ways.{cells_turned, down_carried, across_carried, both_
 use Rattle.claims.proofs.Reversed.{words, laid, allowed, words_back, job_reads, about_back, allowed_too, job_twice, job_again, both_read, table_turned, proposal_again, proposal_twice}
 use Rattle.std.specs.Prelude.{Ok, Err}
 use Rattle.refusals.specs.declared.Refusal.TheVariants.{NoRoom}
+use Rattle.std.specs.Prelude.{Result}
+use Rattle.measure.specs.declared.check.Figures.{Figures}
 
 -- ---- packs
 
@@ -104,11 +106,21 @@ both_is_each = record {
 -- ---- over C
 
 -- what a verdict tells but for its place
-told_number : (v : Verdict) → (answer_of (unplaced v)).number ≡ (answer_of v).number
+number_of_unplaced : Result Figures ℕ → ℕ
+number_of_unplaced (Ok f) = 0
+number_of_unplaced (Err number) = number
+
+rest_in : Result Figures ℕ → List ℕ
+rest_in (Ok f) = nat_abs f.loss ∷ nat_abs f.gap ∷ []
+rest_in (Err number) = 0 ∷ 0 ∷ []
+
+told_number : (v : Verdict) → number_of_unplaced (unplaced v) ≡ (answer_of v).number
+unfolding number_of_unplaced
 told_number (Ok f) = refl
 told_number (Err r) = refl
 
-told_rest : (v : Verdict) → drop 2 (answer_words (answer_of (unplaced v))) ≡ drop 2 (answer_words (answer_of v))
+told_rest : (v : Verdict) → rest_in (unplaced v) ≡ drop 2 (answer_words (answer_of v))
+unfolding rest_in
 told_rest (Ok f) = refl
 told_rest (Err r) = refl
 
@@ -133,8 +145,8 @@ told_in_reverse = record {
       let w : Verdict = check_of (reversed_job way job) (reversed_proposal way job proposal) in
       let e : unplaced v ≡ unplaced w = sym (checked_in_reverse way job proposal B) in
       told_alike answer (check_small job proposal) (check_small (reversed_job way job) (reversed_proposal way job proposal))
-      (sym (told_number v) ∙ ap (λ (u : Verdict). (answer_of u).number) e ∙ told_number w)
-      (sym (told_rest v) ∙ ap (λ (u : Verdict). drop 2 (answer_words (answer_of u))) e ∙ told_rest w)
+      (sym (told_number v) ∙ ap number_of_unplaced e ∙ told_number w)
+      (sym (told_rest v) ∙ ap rest_in e ∙ told_rest w)
       f.returns f.answers g.returns g.answers;
   read = λ way job q words answer r s a b x y f g.
       let e : (read_job_into (length words) (reversed_job way job)).outcome ≡ (read_job_into (length words) job).outcome = same_outcome way job q (length words) in (

@@ -59,13 +59,13 @@ pub record Verdicted (job proposal : List ℕ) (v : Verdict) : Type 0 where
 
 pub verdicted : (job proposal : List ℕ) (v : Verdict) → check_of job proposal ≡ v → accepted v ≡ true → Verdicted job proposal v
 verdicted job proposal (Err r) e y = absurd (true≢false (sym y))
-verdicted job proposal (Ok f) e y =
-    let a : Acceptable job proposal F G = (accepted_exactly job proposal F G).0 e in
+verdicted job proposal (Ok w) e y =
+    let a : Acceptable job proposal w.loss w.gap = (accepted_exactly job proposal w.loss w.gap).0 e in
     let f = (loss_most job proposal a.both_read).0 in
     let g = (no_term_negative job proposal a.both_read a.values_in_boxes a.links_hold).gap in
     record {
       as_answered =
-          e ∙ ap₂ {C = Verdict} accepting (natural F (subst (λ (z : ℤ). pos 0 ≤ℤ z) (sym a.loss_is) f)) (natural G (subst (λ (z : ℤ). pos 0 ≤ℤ z) (sym a.gap_is) g));
+          e ∙ ap₂ {C = Verdict} accepting (natural w.loss (subst (λ (z : ℤ). pos 0 ≤ℤ z) (sym a.loss_is) f)) (natural w.gap (subst (λ (z : ℤ). pos 0 ≤ℤ z) (sym a.gap_is) g));
     }
 
 -- ---- the words of its answer
@@ -81,9 +81,9 @@ told job proposal place F G answered w q = record {
 }
 
 pub told_of : (job proposal answered : List ℕ) (v : Verdict) → check_of job proposal ≡ v → (answer_of v).number ≡ 0 → answered ≡ answer_words (answer_of v) → ToldBest job proposal 0 answered
-told_of job proposal answered (Err r) e n w = absurd (omega (arith, n, (no_other_refusal job proposal number place e).0))
+told_of job proposal answered (Err r) e n w = absurd (omega (arith, n, (no_other_refusal job proposal r e).0))
 told_of job proposal answered (Ok f) e n w =
-    told job proposal 0 (nat_abs F) (nat_abs G) answered w (verdicted job proposal (accepting F G) e refl).as_answered
+    told job proposal 0 (nat_abs f.loss) (nat_abs f.gap) answered w (verdicted job proposal (Ok f) e refl).as_answered
 
 pub kept_told : (job proposal shelf answered : List ℕ) → (said shelf (own (keep job proposal))).answer.number ≡ 0
     → answered ≡ answer_words (said shelf (own (keep job proposal))).answer → ToldBest job proposal 0 answered
@@ -104,11 +104,11 @@ pub record Handed (job proposal values : List ℕ) (r : Reply) : Type 0 where
   pub accepted : check_of job proposal ≡ accepting (pos r.answer.loss) (pos r.answer.gap)
 
 pub handed_told : (job proposal values : List ℕ) (room : ℕ) (v : Verdict) → check_of job proposal ≡ v → (handed room values v).answer.number ≡ 0 → Handed job proposal values (handed room values v)
-handed_told job proposal values room (Err r) e n = absurd (omega (arith, n, (no_other_refusal job proposal number place e).0))
+handed_told job proposal values room (Err r) e n = absurd (omega (arith, n, (no_other_refusal job proposal r e).0))
 handed_told job proposal values room (Ok f) e n = go (leb (length values) room) n
   where
     reply : Bool → Reply
-    reply b = cond b (record { answer = record { number = 0; place = length values; loss = nat_abs F; gap = nat_abs G }; values = values }) (refusal 13 (length values))
+    reply b = cond b (record { answer = record { number = 0; place = length values; loss = nat_abs f.loss; gap = nat_abs f.gap }; values = values }) (refusal 13 (length values))
 
     go : (b : Bool) → (reply b).answer.number ≡ 0 → Handed job proposal values (reply b)
     go true m = record { place = refl; given = refl; accepted = (verdicted job proposal (Ok f) e refl).as_answered }

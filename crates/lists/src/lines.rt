@@ -1,12 +1,11 @@
 // One line of a list: its numbers, or what is wrong with it.
 ghost use Rattle.std.specs.Prelude.{◌≡◌, ◌≤◌};
 ghost use Rattle.decimals.specs.Whole.{largest};
-ghost use Rattle.lists.specs.Lines.{pair_of, fields_of, in_sequence, tested, line_of, header_of, refusal_at};
+ghost use Rattle.lists.specs.Lines.{pair_of, fields_of, in_sequence, tested, line_of, header_of};
 ghost use Rattle.lists.specs.Cut.{same_bytes};
 
 use crate::cut::parted;
 use decimals::reading::whole_of;
-use refusals::Refusal;
 
 // The numbers of a line: age, exposure and deaths; or age, 0 and rate.
 #[derive(Clone, Copy)]
@@ -88,17 +87,6 @@ pub fn line_of(claims: bool, k: usize, before: u64, line: &[u8]) -> Result<Entry
     }
     let entry = fields_of(claims, line).ok_or(Fault::Malformed)?;
     tested(claims, k, before, entry)
-}
-
-// The refusal of a fault on that line.
-pub fn refusal_at(fault: Fault, line: usize) -> Refusal
-    ensures { result ≡ refusal_at fault line }
-{
-    match fault {
-        Fault::Malformed => Refusal::BadLine(line),
-        Fault::Sequence => Refusal::OutOfSequence(line),
-        Fault::Deaths => Refusal::DeathsAbove(line),
-    }
 }
 
 // Whether a line is the header.

@@ -2,19 +2,30 @@
 ghost use Rattle.std.specs.Prelude.{◌≡◌, ◌+◌, ◌≤◌, length, set, drop};
 ghost use Rattle.decimals.specs.Whole.{largest};
 ghost use Rattle.lists.specs.Cut.{lines_of};
-ghost use Rattle.lists.specs.Lines.{most_lines, line_of, refused_at, listed_from, listed_of, ListRead};
+ghost use Rattle.lists.specs.Lines.{most_lines, line_of, refusal_at, refused_at, listed_from, listed_of, ListRead};
 
 use crate::cut::break_from;
-use crate::lines::{Entry, is_header, line_of, refusal_at};
+use crate::lines::{Entry, Fault, is_header, line_of};
 use refusals::Refusal;
 
-// Sets the word at k, where there is one.
+// Sets the word at k, where there is one. (By `get_mut` the goal speaks of values that a proof may not cite.)
 fn store(kept: &mut [u32], k: usize, x: u64)
     requires { x ≤ largest }
     ensures { kept.new ≡ set kept.old k x }
 {
     if k < kept.len() {
         kept[k] = x as u32;
+    }
+}
+
+// The refusal of a fault on that line.
+fn refusal_at(fault: Fault, line: usize) -> Refusal
+    ensures { result ≡ refusal_at fault line }
+{
+    match fault {
+        Fault::Malformed => Refusal::BadLine(line),
+        Fault::Sequence => Refusal::OutOfSequence(line),
+        Fault::Deaths => Refusal::DeathsAbove(line),
     }
 }
 
@@ -27,7 +38,8 @@ fn entry_at(claims: bool, k: usize, before: u64, line: &[u8]) -> Result<Entry, R
     line_of(claims, k, before, line).map_err(|fault| refusal_at(fault, place))
 }
 
-// The lines of data, from the offset `from` on. What stands before a fault is stored too: lend it room of your own.
+// The lines of data, from the offset `from` on. What stands before a fault is stored too: lend it room of your own. The
+// offset goes on by a whole line, so the loop is no `for`.
 fn read_lines(
     text: &[u8],
     claims: bool,

@@ -1,1 +1,2 @@
--- No law of its own: both definitions compute.
+-- How large a number can be.
+pub mod Most

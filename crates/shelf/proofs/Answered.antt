@@ -58,6 +58,3 @@ module _ (shelf : List ℕ) where
     pub passed : test_shelf (row_in shelf) shelf ≡ allowed → (ys : List ℕ) → a ≡ (laid_said (layout_in shelf) shelf call).answer → ys ≡ laid_after (layout_in shelf) shelf call
         → (a ≡ (said shelf (own call)).answer) × (ys ≡ after shelf (own call))
     passed e ys p q = (answered a p (said_passed call e), q ∙ after_passed call e)
-
-    pub barred : (r : Refusal) → test_shelf (row_in shelf) shelf ≡ Err r → a ≡ (refused r).answer → (a ≡ (said shelf (own call)).answer) × (shelf ≡ after shelf (own call))
-    barred r e p = (answered a p (said_refused call r e), after_refused call r e)

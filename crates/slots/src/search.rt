@@ -43,7 +43,7 @@ impl Slots<'_> {
         (0..self.count).position(move |p| !self.full_at(p))
     }
 
-    // Where a table of that job goes. A match: with an or_else, whose closure would hold the borrowed span, the proof did not close.
+    // Where a table of that job goes. A match: with an or_else, whose closure would hold the slots, the proof did not close.
     pub fn slot_for(self, job: u32) -> Option<usize>
         ensures { result ≡ slot_for slot_words self.entry.count job self.entry.span.now }
     {

@@ -16,6 +16,7 @@ use jobs::words::links_at;
 use measure::check::{Figures, check_into};
 use numbers::zigzag::size_of;
 use refusals::Refusal;
+use slots::table::Table;
 
 // n numbers from the number a on, as words of a slot.
 fn copy_rates(rates: &[i64], a: usize, n: usize, values: &mut [u32])
@@ -46,15 +47,14 @@ fn keep_rates(
     copy_rates(rates, n, links, &mut multipliers);
     let society = count_at(words, 0);
     let number = count_at(words, 1);
-    keep_society(
-        shelf,
-        society as u32,
-        number as u32,
+    let table = Table {
+        job: number as u32,
         loss,
         gap,
-        &values[0..n],
-        &multipliers[0..links],
-    );
+        values: &values[..n],
+        multipliers: &multipliers[..links],
+    };
+    keep_society(shelf, society as u32, table);
 }
 
 // Keep a table that the check has accepted with those figures: the numbers of a proposal, for a job's words.

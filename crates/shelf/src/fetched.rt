@@ -17,7 +17,7 @@ use fields::Field;
 use jobs::job::JOB_WORDS;
 use jobs::words;
 use refusals::Refusal;
-use slots::search::find_job;
+use slots::search::Slots;
 use slots::{HEAD, SLOT_WORDS, VALUES_END};
 
 // The table of the slot that begins at the word `at`, for a job's words.
@@ -42,16 +42,16 @@ fn fetch_at(span: &[u32], at: usize, words: &[i64], out: &mut [u32]) -> Result<A
 }
 
 // The table of the lowest slot with the job's number.
-fn fetch_in(span: &[u32], count: usize, words: &[i64], out: &mut [u32]) -> Result<Answer, Refusal>
-    requires { (length span.now ≡ slot_words * count) × (Allowed (job_of words.now) × Laid words.now) }
-    ensures answer { told result ≡ (fetch_in slot_words count (job_of words.now) (length out.old) span.now).answer }
-    ensures output { out.new ≡ overwritten out.old (fetch_in slot_words count (job_of words.now) (length out.old) span.now).values }
+fn fetch_in(slots: Slots, words: &[i64], out: &mut [u32]) -> Result<Answer, Refusal>
+    requires { Allowed (job_of words.now) × Laid words.now }
+    ensures answer { told result ≡ (fetch_in slot_words slots.entry.count (job_of words.now) (length out.old) slots.entry.span.now).answer }
+    ensures output { out.new ≡ overwritten out.old (fetch_in slot_words slots.entry.count (job_of words.now) (length out.old) slots.entry.span.now).values }
 {
     let number = count_at(words, 1);
-    let Some(p) = find_job(span, count, number as u32) else {
+    let Some(p) = slots.find_job(number as u32) else {
         return Err(Refusal::NothingKept);
     };
-    fetch_at(span, SLOT_WORDS * p, words, out)
+    fetch_at(slots.span, SLOT_WORDS * p, words, out)
 }
 
 // The same, from the span of the society that the job names.
@@ -64,7 +64,11 @@ fn fetch_society(shelf: &[u32], words: &[i64], out: &mut [u32]) -> Result<Answer
     let own = span_of(shelf, society as usize);
     let a = own.start;
     let e = own.end;
-    fetch_in(&shelf[a..e], own.count, words, out)
+    let slots = Slots {
+        span: &shelf[a..e],
+        count: own.count,
+    };
+    fetch_in(slots, words, out)
 }
 
 // The same, for a job that stands in the first k words.

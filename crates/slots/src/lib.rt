@@ -3,7 +3,7 @@
 
 pub mod moves;
 pub mod search;
-mod table;
+pub mod table;
 
 // The words of a slot, of its head, and of head and values; the most values of a table.
 pub const SLOT_WORDS: usize = 287;

@@ -1,36 +1,29 @@
 // The moves of a span's slots: one becomes a table, all move down for one, one goes.
 ghost use Rattle.std.specs.Prelude.{◌≡◌, ◌+◌, ◌*◌, ◌≤◌, length};
-ghost use Rattle.slots.specs.Slots.{most_cells, most_links, slot_words, slot_of, put_slot, dropped_slot, pushed};
+ghost use Rattle.slots.specs.Slots.{slot_words, put_slot, dropped_slot, pushed};
+ghost use Rattle.slots.specs.Tables.{words_of};
 
 use crate::SLOT_WORDS;
-use crate::table::put_table;
+use crate::table::Table;
 
 // Slot p becomes the table.
-pub fn put_at(
-    span: &mut [u32],
-    p: usize,
-    job: u32,
-    loss: u64,
-    gap: u64,
-    values: &[u32],
-    multipliers: &[u32],
-)
-    requires { (slot_words * p + slot_words ≤ length span.old) × (length values.now ≤ most_cells) × (length multipliers.now ≤ most_links) }
-    ensures { span.new ≡ put_slot slot_words p (slot_of slot_words job loss gap values.now multipliers.now) span.old }
+pub fn put_at(span: &mut [u32], p: usize, table: Table)
+    requires { slot_words * p + slot_words ≤ length span.old }
+    ensures { span.new ≡ put_slot slot_words p (words_of table.entry) span.old }
 {
     let at = SLOT_WORDS * p;
     let end = at + SLOT_WORDS;
-    put_table(&mut span[at..end], job, loss, gap, values, multipliers);
+    table.put_into(&mut span[at..end]);
 }
 
 // Every slot moves down by one, and the table is the last.
-pub fn push(span: &mut [u32], job: u32, loss: u64, gap: u64, values: &[u32], multipliers: &[u32])
-    requires { (slot_words ≤ length span.old) × (length values.now ≤ most_cells) × (length multipliers.now ≤ most_links) }
-    ensures { span.new ≡ pushed slot_words (slot_of slot_words job loss gap values.now multipliers.now) span.old }
+pub fn push(span: &mut [u32], table: Table)
+    requires { slot_words ≤ length span.old }
+    ensures { span.new ≡ pushed slot_words (words_of table.entry) span.old }
 {
     span.copy_within(SLOT_WORDS.., 0);
     let last = span.len() - SLOT_WORDS;
-    put_table(&mut span[last..], job, loss, gap, values, multipliers);
+    table.put_into(&mut span[last..]);
 }
 
 // The slots after p move down by one, and the last becomes zeros.

@@ -1,45 +1,55 @@
 // Searches in a span of slots: the lowest that has a job, the lowest that is empty.
-ghost use Rattle.std.specs.Prelude.{◌≡◌, ◌+◌, ◌*◌, ◌<◌, length, drop};
+ghost use Rattle.std.specs.Prelude.{◌≡◌, ◌*◌, ◌<◌, length, drop};
 ghost use Rattle.slots.specs.Slots.{slot_words, is_full, has_job, is_empty, lowest, slot_for};
 
 use crate::{CELLS, SLOT_WORDS};
 
-// Slot p holds a table.
-fn full_at(span: &[u32], p: usize) -> bool
-    requires { slot_words * p < length span.now }
-    ensures { result ≡ is_full (drop (slot_words * p) span.now) }
-{
-    (2..=CELLS).contains(&span[SLOT_WORDS * p])
+// The words of so many slots.
+#[derive(Clone, Copy)]
+pub struct Slots<'a> {
+    pub span: &'a [u32],
+    pub count: usize,
+    pub ghost whole: { length span.now ≡ slot_words * count },
 }
 
-// It holds a table of that job.
-fn job_at(span: &[u32], p: usize, job: u32) -> bool
-    requires { slot_words * p + 1 < length span.now }
-    ensures { result ≡ has_job job (drop (slot_words * p) span.now) }
-{
-    full_at(span, p) && span[SLOT_WORDS * p + 1] == job
-}
+impl Slots<'_> {
+    // Slot p holds a table.
+    fn full_at(self, p: usize) -> bool
+        requires { p < self.count }
+        ensures { result ≡ is_full (drop (slot_words * p) self.entry.span.now) }
+    {
+        (2..=CELLS).contains(&self.span[SLOT_WORDS * p])
+    }
 
-// The lowest of `count` slots that has the job.
-pub fn find_job(span: &[u32], count: usize, job: u32) -> Option<usize>
-    requires { length span.now ≡ slot_words * count }
-    ensures { result ≡ lowest (has_job job) slot_words count span.now }
-{
-    (0..count).position(move |p| job_at(span, p, job))
-}
+    // It holds a table of that job.
+    fn job_at(self, p: usize, job: u32) -> bool
+        requires { p < self.count }
+        ensures { result ≡ has_job job (drop (slot_words * p) self.entry.span.now) }
+    {
+        self.full_at(p) && self.span[SLOT_WORDS * p + 1] == job
+    }
 
-// The lowest empty slot.
-fn find_empty(span: &[u32], count: usize) -> Option<usize>
-    requires { length span.now ≡ slot_words * count }
-    ensures { result ≡ lowest is_empty slot_words count span.now }
-{
-    (0..count).position(move |p| !full_at(span, p))
-}
+    // The lowest slot that has the job.
+    pub fn find_job(self, job: u32) -> Option<usize>
+        ensures { result ≡ lowest (has_job job) slot_words self.entry.count self.entry.span.now }
+    {
+        (0..self.count).position(move |p| self.job_at(p, job))
+    }
 
-// Where a table of that job goes.
-pub fn slot_for(span: &[u32], count: usize, job: u32) -> Option<usize>
-    requires { length span.now ≡ slot_words * count }
-    ensures { result ≡ slot_for slot_words count job span.now }
-{
-    find_job(span, count, job).or_else(|| find_empty(span, count))
+    // The lowest empty slot.
+    fn find_empty(self) -> Option<usize>
+        ensures { result ≡ lowest is_empty slot_words self.entry.count self.entry.span.now }
+    {
+        (0..self.count).position(move |p| !self.full_at(p))
+    }
+
+    // Where a table of that job goes. A match: with an or_else, whose closure would hold the slots, the proof did not close.
+    pub fn slot_for(self, job: u32) -> Option<usize>
+        ensures { result ≡ slot_for slot_words self.entry.count job self.entry.span.now }
+    {
+        match self.find_job(job) {
+            Some(p) => Some(p),
+            None => self.find_empty(),
+        }
+    }
 }

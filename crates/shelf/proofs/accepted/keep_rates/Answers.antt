@@ -1,6 +1,4 @@
 -- The values and multipliers that are lent are the proposal's, and the society and the number are those of the job's words.
-use mathlib.Core.Path.{◌≡◌, ap, ◌∙◌}
-use Prim.Native.Nat.{ℕ, ◌-◌}
 use native.Mathlib.Omega.{arith}
 use lib.ListN.{take, drop, replicate}
 use Rattle.checked.specs.Checked.{taken_from}
@@ -23,8 +21,8 @@ count_at-number-requires c = let J = c.requires.1 in (omega (arith, J.room), ome
 pub overflow_cast-society : goal.overflow_cast-society
 overflow_cast-society c = let J = c.requires.1 in record { fits = omega (arith, c.count_at-society.ensures, J.society) }
 
-pub overflow_cast-number : goal.overflow_cast-number
-overflow_cast-number c = let J = c.requires.1 in record { fits = omega (arith, c.count_at-number.ensures, J.number) }
+pub overflow_cast-table : goal.overflow_cast-table
+overflow_cast-table c = let J = c.requires.1 in record { fits = omega (arith, c.count_at-number.ensures, J.number) }
 
 pub returns : goal.returns
 returns c = let kept = c.keep_society in
@@ -37,10 +35,8 @@ returns c = let kept = c.keep_society in
     let links = a.links in
     let values = c.copy_rates.new.values in
     let multipliers = c.copy_rates-2.new.values in
-    let whole-n : n - 0 ≡ n = omega arith in
-    let whole-links : links - 0 ≡ links = omega arith in
     kept_by_lem (layout_in a.shelf.now) a.words.now a.loss a.gap society.result number.result society.ensures number.ensures
-    (take (n - 0) (drop 0 values)) (taken_from 0 n rates) (take (links - 0) (drop 0 multipliers)) (taken_from n links rates)
-    (ap (λ (k : ℕ). take k (drop 0 values)) whole-n ∙ numbers_part 0 n rates (drop n (replicate 120 0)) values R.values.inside c.copy_rates.ensures)
-    (ap (λ (k : ℕ). take k (drop 0 multipliers)) whole-links ∙ numbers_part n links rates (drop links (replicate 160 0)) multipliers R.multipliers.inside c.copy_rates-2.ensures)
+    (take n values) (taken_from 0 n rates) (take links multipliers) (taken_from n links rates)
+    (numbers_part 0 n rates (drop n (replicate 120 0)) values R.values.inside c.copy_rates.ensures)
+    (numbers_part n links rates (drop links (replicate 160 0)) multipliers R.multipliers.inside c.copy_rates-2.ensures)
     a.shelf.now kept.new.shelf kept.ensures

@@ -76,7 +76,9 @@ impl<'a> Factor<'a> {
         }
     }
 
-    // The values before rounding, in place of the right side.
+    // The values before rounding, in place of the right side. This and the next become part of whoever calls them: with the solve apart, the factoring
+    // of a grid of 12 columns took 2 to 5 parts in a hundred longer.
+    #[inline(always)]
     pub fn solve(self, v: &mut [f64; CELLS])
         ensures { v.new ≡ solution_of self.entry.pivots.now self.entry.multipliers.now self.entry.reach self.entry.cells v.old }
     {
@@ -86,6 +88,7 @@ impl<'a> Factor<'a> {
     }
 
     // The same where the factor is whole; where it is thin, nothing is done. The ending is handed back.
+    #[inline(always)]
     pub fn solve_whole(self, ending: Result<(), Thin>, v: &mut [f64; CELLS]) -> Result<(), Thin>
         ensures { (result ≡ ending) × (v.new ≡ solved_by self.entry.reach self.entry.cells v.old self.entry.pivots.now self.entry.multipliers.now ending) }
     {

@@ -36,7 +36,7 @@ pub fn refused(r: Refusal) -> Answer
     plain(number_of(r), place_of(r) as u64)
 }
 
-// The count that stands at `at`: a word of 32 bits at most.
+// The count that stands at `at`: a word of 32 bits at most, for which `jobs::words::count_at` asks too much.
 pub fn count_at(words: &[i64], at: usize) -> u64
     requires { (at < length words.now) × (count_at words.now at ≤ 4294967295) }
     ensures { result ≡ count_at words.now at }

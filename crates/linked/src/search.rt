@@ -19,7 +19,8 @@ use jobs::words::{cells_of, links_of, order_of};
 use passes::method::{LINKS, pass};
 use refusals::Refusal;
 
-// How many passes come before the first whose proposal is accepted, or the number given. Values and multipliers stay as they are then.
+// How many passes come before the first whose proposal is accepted, or the number given where none is, as `passes_before` answers. Values and
+// multipliers stay as they are then.
 fn search(
     words: &[i64],
     n: usize,

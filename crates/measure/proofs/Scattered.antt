@@ -19,7 +19,7 @@ use Rattle.whole.proofs.Rows.{only_same, only_other, coefficient_times}
 use Rattle.whole.proofs.Magnitude.{bound-+, bound-*}
 use Rattle.whole.proofs.Fits.{small_fits, gives}
 use Rattle.jobs.specs.Words.{word_at, count_at}
-use Rattle.jobs.specs.Allowed.{Upto, Counts}
+use Rattle.jobs.specs.Allowed.{Upto}
 use Rattle.tally.proofs.Locals.{read}
 use Rattle.measure.specs.Given.{LinkAt, Adding, Scattering, GivesBack}
 use Rattle.measure.specs.Running.{Added, part_at}
@@ -149,12 +149,6 @@ abbrev pub link_terms : List ℤ → (s : ℕ) → (y : ℤ) → (m i : ℕ) →
 link_terms ws s y m i = terms_of (λ m. count_at ws (s + 1 + 2 * m)) (λ m. word_at ws (s + 2 + 2 * m)) y m i
 
 module _ {ws : List ℤ} {s : ℕ} (L : LinkAt ws s) where
-  pub link_counts : Counts ws s
-  link_counts = record { inside = omega (arith, L.inside); natural = L.terms.natural; small = omega (arith, L.terms.small) }
-
-  pub cell_counts : (m : ℕ) → m < count_at ws s → Counts ws (s + 1 + 2 * m)
-  cell_counts m h = record { inside = omega (arith, L.inside); natural = (L.cell m h).natural; small = omega (arith, (L.cell m h).small) }
-
   pub coefficient_read : (m : ℕ) → m < count_at ws s → read (word_at ws (s + 2 + 2 * m)) ≡ word_at ws (s + 2 + 2 * m)
   coefficient_read m h = gives refl (small_fits (word_at ws (s + 2 + 2 * m)) (L.coefficient m h) (lit< tt))
 

@@ -269,9 +269,6 @@ supplied_amount w r lo hi v = go (square_counts limit w r)
 pub supplied_small : (w r lo hi v : ℤ) → CellNumbers w r lo hi v → Amount (supplied w r lo hi v)
 supplied_small w r lo hi v h = record { small = subst (λ (x : ℤ). nat_abs x ≤ 7000000000000000000) (sym (supplied_amount w r lo hi v)) (cell_small w r lo hi v h) }
 
-pub amount_read : {s : Supplied} → Amount s → read (amount_of s) ≡ amount_of s
-amount_read {s} h = gives refl (small_fits (amount_of s) h.small (lit< tt))
-
 pub true_t : {b : Bool} → b ≡ true → T b
 true_t e = subst (λ (x : Bool). T x) (sym e) tt
 

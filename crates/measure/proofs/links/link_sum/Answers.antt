@@ -10,6 +10,9 @@ use Rattle.measure.proofs.links.link_sum.Goals as goal
 pub loop-m-init : goal.loop-m-init
 loop-m-init c = sym (sum_zero _)
 
+pub sum_term-total-requires : goal.sum_term-total-requires
+sum_term-total-requires c = (c.requires, omega (arith, c.count_at-t.ensures))
+
 pub overflow_add-total : goal.overflow_add-total
 overflow_add-total c = adds_fits (sum_adds c.requires) (omega (arith, c.count_at-t.ensures)) (record { is = c.loop-m.invariant }) c.sum_term-total.ensures
 

@@ -10,21 +10,21 @@ use Rattle.measure.specs.Given.{LinkAt}
 use Rattle.passes.specs.Hildreth.{placed_from}
 use Rattle.passes.specs.OnWords.{link_at}
 use Rattle.passes.proofs.Turns.{placed_more, placed_done}
-use Rattle.passes.proofs.link.right_for.Goals as goal
+use Rattle.passes.proofs.link.Link.right_for.Goals as goal
 
 -- the cell that a term names is one of the job's
 cell : {words : List ℤ} {s m : ℕ} → LinkAt words s → cells_of words ≤ 120 → m < count_at words s → count_at words (s + 1 + 2 * m) < 120
 cell {words} {s} {m} k few h = let inside = k.cell_inside m h in omega (arith, inside, few)
 
 pub loop-m-preserved : goal.loop-m-preserved
-loop-m-preserved c = let k = link_at c.args.words.now c.args.s in
+loop-m-preserved c = let k = link_at c.args.self.job.words.now c.args.self.start in
     let t = c.count_at-t.result in
     let m = c.loop-m.m in
-    ap₂ {C = List Float} (λ (i : ℕ) (a : Float). placed_from k (t - (m + 1)) (m + 1) (set c.loop-m.made i a)) c.cell_at-cell.ensures c.coefficient_at-a.ensures
+    ap₂ {C = List Float} (λ (i : ℕ) (a : Float). placed_from k (t - (m + 1)) (m + 1) (set c.loop-m.made i a)) c.cell-cell.ensures c.coefficient-a.ensures
     ∙ sym (placed_more k m t c.loop-m.made (omega arith)) ∙ c.loop-m.invariant
 
 pub returns : goal.returns
 unfolding of_bits
-returns c = let k = link_at c.args.words.now c.args.s in
+returns c = let k = link_at c.args.self.job.words.now c.args.self.start in
     let t = c.count_at-t.result in
     sym (placed_done k c.loop-m.m t c.loop-m.made (omega arith)) ∙ c.loop-m.invariant ∙ ap (λ (n : ℕ). placed_from k n 0 _) c.count_at-t.ensures

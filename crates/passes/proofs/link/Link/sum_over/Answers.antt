@@ -10,7 +10,7 @@ use Rattle.measure.specs.Given.{LinkAt}
 use Rattle.passes.specs.Hildreth.{plus_by, term_over, sum_over}
 use Rattle.passes.specs.OnWords.{link_at}
 use Rattle.passes.proofs.Turns.{plus_more, plus_done}
-use Rattle.passes.proofs.link.sum_over.Goals as goal
+use Rattle.passes.proofs.link.Link.sum_over.Goals as goal
 
 -- the cell that a term names is one of the job's
 cell : {words : List ℤ} {s m : ℕ} → LinkAt words s → cells_of words ≤ 120 → m < count_at words s → count_at words (s + 1 + 2 * m) < 120
@@ -18,13 +18,13 @@ cell {words} {s} {m} k few h = let inside = k.cell_inside m h in omega (arith, i
 
 pub loop-m-preserved : goal.loop-m-preserved
 loop-m-preserved c = let xs = c.args.xs.now in
-    let t = term_over (link_at c.args.words.now c.args.s) xs in
+    let t = term_over (link_at c.args.self.job.words.now c.args.self.start) xs in
     let n = c.count_at-t.result in
     let m = c.loop-m.m in
-    ap₂ {C = Float} (λ (i : ℕ) (a : Float). plus_by t (m + 1) (n - (m + 1)) (add binary64 c.loop-m.total (mul binary64 a (get_or xs i nan)))) c.cell_at-cell.ensures c.coefficient_at-a.ensures
+    ap₂ {C = Float} (λ (i : ℕ) (a : Float). plus_by t (m + 1) (n - (m + 1)) (add binary64 c.loop-m.total (mul binary64 a (get_or xs i nan)))) c.cell-cell.ensures c.coefficient-a.ensures
     ∙ sym (plus_more t m n c.loop-m.total (omega arith)) ∙ c.loop-m.invariant
 
 pub returns : goal.returns
 unfolding sum_over of_bits
-returns c = let t = term_over (link_at c.args.words.now c.args.s) c.args.xs.now in
+returns c = let t = term_over (link_at c.args.self.job.words.now c.args.self.start) c.args.xs.now in
     sym (plus_done t c.loop-m.m c.count_at-t.result c.loop-m.total (omega arith)) ∙ c.loop-m.invariant ∙ ap (λ (n : ℕ). plus_by t 0 n _) c.count_at-t.ensures

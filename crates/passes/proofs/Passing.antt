@@ -43,7 +43,7 @@ next_state ws d l z n i {s} e v y h =
     ap {B = Improved} (λ (s : ℕ). improved_of d l z n (link_at ws s) (get_or y i nan) v) e in
     ap₂ {C = State} (λ (v : List Float) (new : Float). state v (set y i new)) (h.1 ∙ ap {B = List Float} (λ (i : Improved). i.values) q) (h.0 ∙ ap {B = Float} (λ (i : Improved). i.multiplier) q)
 
-module _ (job : ReadJob) {i s : ℕ} (e : s ≡ start_of job.words.now i) where
+module _ (job : ReadJob) (i : ℕ) {s : ℕ} (e : s ≡ start_of job.words.now i) where
   pub at_link : i < links_of job.words.now → LinkAt job.words.now s
   at_link h = subst (λ (x : ℕ). LinkAt job.words.now x) (sym e) (link_at_lem job.allowed job.laid i h)
 

@@ -1,20 +1,13 @@
 use mathlib.Core.Path.{sym, ap, ap₂, ◌∙◌}
-use Prim.Native.Nat.{ℕ, ◌+◌, ◌-◌, ◌*◌, ◌<◌, ◌≤◌}
+use Prim.Native.Nat.{ℕ, ◌+◌, ◌-◌}
 use mathlib.Core.List.{List}
-use lib.IntN.{ℤ}
 use lib.ListN.{set}
 use lib.Ieee.{Float, of_bits}
 use native.Mathlib.Omega.{arith}
-use Rattle.jobs.specs.Words.{count_at, cells_of}
-use Rattle.measure.specs.Given.{LinkAt}
 use Rattle.passes.specs.Hildreth.{placed_from}
 use Rattle.passes.specs.OnWords.{link_at}
 use Rattle.passes.proofs.Turns.{placed_more, placed_done}
 use Rattle.passes.proofs.link.Link.right_for.Goals as goal
-
--- the cell that a term names is one of the job's
-cell : {words : List ℤ} {s m : ℕ} → LinkAt words s → cells_of words ≤ 120 → m < count_at words s → count_at words (s + 1 + 2 * m) < 120
-cell {words} {s} {m} k few h = let inside = k.cell_inside m h in omega (arith, inside, few)
 
 pub loop-m-preserved : goal.loop-m-preserved
 loop-m-preserved c = let k = link_at c.args.self.job.words.now c.args.self.start in

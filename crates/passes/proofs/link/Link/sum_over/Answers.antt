@@ -1,20 +1,12 @@
 use mathlib.Core.Path.{sym, ap, ap₂, ◌∙◌}
-use Prim.Native.Nat.{ℕ, ◌+◌, ◌-◌, ◌*◌, ◌<◌, ◌≤◌}
-use mathlib.Core.List.{List}
-use lib.IntN.{ℤ}
+use Prim.Native.Nat.{ℕ, ◌+◌, ◌-◌}
 use lib.ListN.{get_or}
 use lib.Ieee.{Float, nan, binary64, add, mul, of_bits}
 use native.Mathlib.Omega.{arith}
-use Rattle.jobs.specs.Words.{count_at, cells_of}
-use Rattle.measure.specs.Given.{LinkAt}
 use Rattle.passes.specs.Hildreth.{plus_by, term_over, sum_over}
 use Rattle.passes.specs.OnWords.{link_at}
 use Rattle.passes.proofs.Turns.{plus_more, plus_done}
 use Rattle.passes.proofs.link.Link.sum_over.Goals as goal
-
--- the cell that a term names is one of the job's
-cell : {words : List ℤ} {s m : ℕ} → LinkAt words s → cells_of words ≤ 120 → m < count_at words s → count_at words (s + 1 + 2 * m) < 120
-cell {words} {s} {m} k few h = let inside = k.cell_inside m h in omega (arith, inside, few)
 
 pub loop-m-preserved : goal.loop-m-preserved
 loop-m-preserved c = let xs = c.args.xs.now in

@@ -2,7 +2,12 @@
 use Rattle.std.proofs.Common.{◌≡◌, ℕ, ◌^◌, ◌<◌, ◌≤◌, List, ℤ, nat_abs, lit<, to_z-of_z, w64, to_z, of_z}
 use Rattle.whole.proofs.Fits.{small_fits, gives}
 use Rattle.jobs.specs.Words.{cells_of, order_of, job_of}
+use Rattle.jobs.specs.declared.words.ReadJob.{ReadJob}
 use Rattle.house.specs.Known.{Known}
+
+-- a read job carries it
+pub known : (job : ReadJob) → Known job.words.now
+known job = record { allowed = job.allowed; laid = job.laid }
 
 -- a word that is passed on
 pub word_is : (x : ℤ) {c : ℕ} → nat_abs x ≤ c → c < 2 ^ 63 → to_z w64 (of_z w64 x) ≡ x

@@ -1,19 +1,17 @@
 -- How the code makes a row of a grid's band: from two lists of five entries, one down and one across. Nothing promised rests on this file.
-use Rattle.std.specs.Prelude.{◌≡◌, ℕ, ◌+◌, ◌/◌, ◌%◌, ◌≤◌, List, ℤ, pos, ◌==◌, nat_le, slice_index_or, Float}
+use Rattle.std.specs.Prelude.{ℕ, ◌+◌, ◌/◌, ◌%◌, List, ℤ, pos, ◌==◌, nat_le, slice_index_or, Float}
 use Rattle.std.specs.Float.{nan}
+use Rattle.std.specs.Coded.{Coded-set, coded_ℤ}
+use Rattle.rows.specs.Rows.{IsRow}
 use Rattle.std.specs.Prelude.{if◌then◌else◌}
 use Rattle.jobs.specs.Job.{Job}
-use Rattle.jobs.specs.Words.{columns_of, job_of}
-use Rattle.house.specs.Known.{Known}
 use Rattle.house.specs.Filled.{filled}
 use Rattle.house.specs.Band.{whole_entry, entries_of, zero64}
-use Rattle.house.specs.Grid.{reach, across_squares}
+use Rattle.house.specs.Grid.{across_squares}
 
--- The words of a job of at most 12 columns, and its reach.
-pub record Narrow (ws : List ℤ) (z : ℕ) : Type 0 where
-  pub known : Known ws
-  pub columns_few : columns_of ws ≤ 12
-  pub reach_is : z ≡ reach (job_of ws)
+-- That a list is a row holds in one way only, so a struct may keep it.
+pub IsRow-prop : (z : ℕ) (s : List ℤ) → IsProp (IsRow z s)
+IsRow-prop z s a b = λ t. record { at = λ m. Coded-set coded_ℤ _ _ (a.at m) (b.at m) t }
 
 -- A at (i, i - t·columns), at t; the diagonal stands whole at 0.
 abbrev pub below_of : Job → (i : ℕ) → List Float

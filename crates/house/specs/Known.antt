@@ -1,4 +1,4 @@
--- What the house proposal knows of the words it takes: they are those of a job that was read.
+-- What is known of the words of a job that was read, as one record.
 use Rattle.std.specs.Prelude.{List, ℤ}
 use Rattle.jobs.specs.Words.{job_of}
 use Rattle.jobs.specs.Allowed.{Allowed, Laid}

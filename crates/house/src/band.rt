@@ -2,13 +2,12 @@
 ghost use Rattle.std.specs.Prelude.{◌≡◌, ◌<◌, ◌≤◌, replicate, ◌*ℤ◌, unsigned_abs};
 ghost use Rattle.std.specs.Float.{binary64};
 ghost use Rattle.std.specs.Float.Ieee.{of_int};
-ghost use Rattle.jobs.specs.Words.{job_of, cells_of};
+ghost use Rattle.jobs.specs.Words.{job_of};
 ghost use Rattle.rows.specs.Rows.{IsRow};
-ghost use Rattle.house.specs.Known.{Known};
 ghost use Rattle.house.specs.Band.{product_term, squares_at, whole_entry, entries_of, zero64, band_of, right_of};
 
 use factor::CELLS;
-use jobs::words::{cells_of, constant_of, crude_at, weight_at};
+use jobs::words::ReadJob;
 
 // A whole number, cast exactly.
 pub fn cast(x: i64) -> f64
@@ -83,15 +82,16 @@ pub fn entries_of(row: &[i64; 5], w: i64, k: i64, n: usize, z: usize, i: usize) 
 }
 
 // The band of a job, by cell and offset.
-pub fn band(words: &[i64], n: usize, z: usize) -> [[f64; 5]; CELLS]
-    requires { Known words.now × (n ≡ cells_of words.now) × (z ≡ (job_of words.now).order) }
-    ensures { result ≡ band_of (job_of words.now) }
+pub fn band(job: ReadJob) -> [[f64; 5]; CELLS]
+    ensures { result ≡ band_of (job_of job.entry.words.now) }
 {
+    let n = job.cells();
+    let z = job.order();
     let row = rows::row_of(z);
     let mut made = [[0.0; 5]; CELLS];
     for i in 0..n {
-        let w = weight_at(words, i);
-        let k = constant_of(words);
+        let w = job.weight(i);
+        let k = job.constant();
         let entries = entries_of(&row, w, k, n, z, i);
         made[i] = entries;
     }
@@ -106,14 +106,14 @@ fn right_at(w: i64, u: i64) -> f64
 }
 
 // The right side of a job, by cell, into a list of zeros.
-pub fn right(words: &[i64], made: &mut [f64; CELLS])
-    requires { Known words.now × (made.old ≡ replicate 120 zero64) }
-    ensures { made.new ≡ right_of (job_of words.now) }
+pub fn right(job: ReadJob, made: &mut [f64; CELLS])
+    requires { made.old ≡ replicate 120 zero64 }
+    ensures { made.new ≡ right_of (job_of job.entry.words.now) }
 {
-    let n = cells_of(words);
+    let n = job.cells();
     for i in 0..n {
-        let w = weight_at(words, i);
-        let u = crude_at(words, i);
+        let w = job.weight(i);
+        let u = job.crude(i);
         made[i] = right_at(w, u);
     }
 }

@@ -3,8 +3,7 @@ ghost use Rattle.std.specs.Prelude.{◌≡◌, ◌+◌, ◌-◌, ◌<◌, ◌≤
 ghost use Rattle.std.proofs.lemmas.List.Edits.{sets};
 ghost use Rattle.factor.specs.Factor.{lowest, start_of, factor_step, factor_from};
 ghost use Rattle.factor.specs.Places.{Placed};
-ghost use Rattle.jobs.specs.Words.{job_of, cells_of, order_of};
-ghost use Rattle.house.specs.Known.{Known};
+ghost use Rattle.jobs.specs.Words.{job_of};
 ghost use Rattle.house.specs.Band.{zero64, right_of};
 ghost use Rattle.house.specs.Factoring.{rows_of, answered, Solves, front, HandsOut};
 ghost use Rattle.house.specs.Proposal.{line_solved};
@@ -13,7 +12,7 @@ use crate::band::band;
 use factor::{
     CELLS, Factor, STARTS, Thin, factor_row, lowest_of, put_row, start_at, starts_of, value_of,
 };
-use jobs::words::cells_of;
+use jobs::words::ReadJob;
 
 // The most multipliers of a row, and the most of all rows.
 pub const WIDTH: usize = 4;
@@ -107,17 +106,17 @@ fn hand_out(from: &[f64], to: &mut [f64])
 // The band and the copy in which it is made take room that only this function needs.
 #[inline(never)]
 pub fn solve_line_into(
-    words: &[i64],
-    z: usize,
+    job: ReadJob,
     v: &mut [f64; CELLS],
     d: &mut [f64; CELLS],
     l: &mut [f64; LINE_PLACES],
 ) -> Result<(), Thin>
-    requires { Known words.now × (z ≡ order_of words.now) × (v.old ≡ right_of (job_of words.now)) × (d.old ≡ replicate 120 zero64) × (l.old ≡ replicate 480 zero64) }
-    ensures { Solves (line_solved (job_of words.now)) result d.new l.new v.new }
+    requires { (v.old ≡ right_of (job_of job.words.now)) × (d.old ≡ replicate 120 zero64) × (l.old ≡ replicate 480 zero64) }
+    ensures { Solves (line_solved (job_of job.entry.words.now)) result d.new l.new v.new }
 {
-    let n = cells_of(words);
-    let a = band(words, n, z);
+    let n = job.cells();
+    let z = job.order();
+    let a = band(job);
     let starts = starts_of(n, z);
     let ending = factor_band(a, n, z, &starts, d, l);
     let made = Factor {
@@ -134,18 +133,17 @@ pub fn solve_line_into(
 // does not pay for a line's.
 #[inline(never)]
 pub fn solve_line(
-    words: &[i64],
-    z: usize,
+    job: ReadJob,
     v: &mut [f64; CELLS],
     pivots: &mut [f64],
     multipliers: &mut [f64],
 ) -> Result<(), Thin>
-    requires { Known words.now × (z ≡ order_of words.now) × (v.old ≡ right_of (job_of words.now)) × (length pivots.old ≤ 120) × (length multipliers.old ≤ 480) }
-    ensures { HandsOut (line_solved (job_of words.now)) pivots.old multipliers.old result pivots.new multipliers.new v.new }
+    requires { (v.old ≡ right_of (job_of job.words.now)) × (length pivots.old ≤ 120) × (length multipliers.old ≤ 480) }
+    ensures { HandsOut (line_solved (job_of job.entry.words.now)) pivots.old multipliers.old result pivots.new multipliers.new v.new }
 {
     let mut d = [0.0; CELLS];
     let mut l = [0.0; LINE_PLACES];
-    let ending = solve_line_into(words, z, v, &mut d, &mut l);
+    let ending = solve_line_into(job, v, &mut d, &mut l);
     hand_out(&d, pivots);
     hand_out(&l, multipliers);
     ending

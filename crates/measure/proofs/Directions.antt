@@ -32,7 +32,7 @@ use Rattle.rows.specs.Rows.{row_of, IsRow}
 use Rattle.rows.proofs.Rule.{row_small, row_size}
 use Rattle.tally.proofs.Locals.{read}
 use Rattle.measure.specs.Loss.{family_with, form_within, difference_within, family_of, family_across, across_at, roughness, loss_of}
-use Rattle.measure.specs.Given.{Given, Differs, GivesBack, Smooths, Smoothing, Losing}
+use Rattle.measure.specs.Given.{Given, Differs, GivesBack, Smooths, Smoothing}
 use Rattle.measure.specs.Running.{Added, back_at}
 use Rattle.measure.specs.OnWords.{fit_on, loss_on, rough_on, smooth_on}
 use Rattle.measure.proofs.Differences.{row_coefficients, row_coefficient, row_form, difference_small, difference_less}
@@ -326,11 +326,11 @@ module _ {ws ps : List ℤ} (G : Given ws ps) where
   loss_in_64 = small_fits (loss_on ws ps) loss_at_most (lit< tt)
 
 -- the loss in code
-module _ {ws ps : List ℤ} {n : ℕ} {rough fit : ℤ} (L : Losing ws ps n rough) (ef : fit ≡ fit_on ws ps) where
+module _ {ws ps : List ℤ} {rough fit : ℤ} (G : Given ws ps) (er : rough ≡ rough_on ws ps) (ef : fit ≡ fit_on ws ps) where
   pub loss_is : read fit +ℤ read rough ≡ loss_on ws ps
   unfolding loss_of
   loss_is =
-      ap₂ ◌+ℤ◌ (gives ef (small_fits (fit_on ws ps) (fit_at_most L.given) (lit< tt))) (gives L.rough_is (rough_fits L.given))
+      ap₂ ◌+ℤ◌ (gives ef (small_fits (fit_on ws ps) (fit_at_most G) (lit< tt))) (gives er (rough_fits G))
 
 -- ---- one direction after the other, in code
 

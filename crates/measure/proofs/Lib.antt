@@ -1,5 +1,6 @@
 -- The laws behind the functions of this crate. Each file says what it is for.
 pub mod Places
+pub mod Proposals
 pub mod Differences
 pub mod Losses
 pub mod Largest

@@ -111,9 +111,6 @@ module _ {ws ps : List ℤ} (G : Given ws ps) {n l s : ℕ} (en : n ≡ cells_of
   pub here_link : LinkAt ws s
   here_link = subst (λ (x : ℕ). LinkAt ws x) (sym es) (link_at_lem G.allowed G.laid l h)
 
-  pub here_linked : Linked ws ps s
-  here_linked = record { link = here_link; proposed = G.proposed }
-
   pub here_multiplier : read (word_at ps (n + l)) ≡ multiplier_on ws ps l
   here_multiplier = ap (λ (x : ℕ). read (word_at ps (x + l))) en ∙ multiplier_read (G.proposed.multiplier l h)
 

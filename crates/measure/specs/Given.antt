@@ -5,7 +5,7 @@ use Rattle.jobs.specs.Words.{word_at, count_at, cells_of, links_of, job_of}
 use Rattle.jobs.specs.Allowed.{Upto, Allowed, Laid, Proposed}
 use Rattle.tally.specs.declared.Tally.{Tally}
 use Rattle.tally.specs.Tally.{tallied_of}
-use Rattle.measure.specs.OnWords.{in_box_on, holds_on, rough_on, smooth_on, link_part_on, link_term_on}
+use Rattle.measure.specs.OnWords.{in_box_on, holds_on, smooth_on, link_part_on, link_term_on}
 
 -- The words of a job, and those of a proposal for it.
 pub record Given (ws ps : List ℤ) : Type 0 where
@@ -51,12 +51,6 @@ pub record Smoothing (ws ps : List ℤ) (n : ℕ) (parts : List ℤ) : Type 0 wh
   pub n_is : n ≡ cells_of ws
   pub room : n ≤ length parts
   pub small : (i : ℕ) → i < n → nat_abs (word_at parts i) ≤ 6400000000000
-
--- A job and a proposal with n cells, and the roughness of the table, by which its loss is told.
-pub record Losing (ws ps : List ℤ) (n : ℕ) (rough : ℤ) : Type 0 where
-  pub given : Given ws ps
-  pub n_is : n ≡ cells_of ws
-  pub rough_is : rough ≡ rough_on ws ps
 
 -- The words of a link that starts at s.
 pub record LinkAt (ws : List ℤ) (s : ℕ) : Type 0 where

@@ -1,21 +1,22 @@
 // The check of a proposal (document 01, "Order"): the job pack's refusals, then 6, values in their boxes (7), links kept (8), and a gap of at
 // most the tolerance (9), which names the gap's largest term.
-ghost use Rattle.std.specs.Prelude.{◌≡◌, ◌≤◌, length, take};
+ghost use Rattle.std.specs.Prelude.{◌≡◌};
 ghost use Rattle.std.proofs.lemmas.List.Edits.{sets};
 ghost use Rattle.jobs.specs.Packs.{read_job};
 ghost use Rattle.jobs.specs.Words.{job_of};
 ghost use Rattle.measure.specs.Check.{check_of, verdict_for};
 ghost use Rattle.measure.specs.Opening.{proposal_words};
-ghost use Rattle.measure.specs.Given.{Given, Judging};
+ghost use Rattle.measure.specs.Given.{Judging};
 ghost use Rattle.measure.specs.Running.{Added};
 ghost use Rattle.measure.specs.OnWords.{smooth_on, judged_on};
 
 use crate::meeting::meet;
 use crate::opening::open_both;
+use crate::proposed::Proposal;
 use crate::{gap, loss, smooth};
 use jobs::job::JOB_WORDS;
 use jobs::proposal::PROPOSAL_WORDS;
-use jobs::words;
+use jobs::words::ReadJob;
 use refusals::Refusal;
 use tally::{Tally, place_of};
 
@@ -30,46 +31,29 @@ pub struct Figures {
 pub type Verdict = Result<Figures, Refusal>;
 
 // The verdict on a table that meets its boxes and links, from the tally of its link terms and its link parts, to which its differences add.
-fn judged(words: &[i64], proposal: &[i64], n: usize, links: Tally, parts: &mut [i64]) -> Verdict
-    requires { Judging words.now proposal.now n links parts.old }
-    ensures { (result ≡ judged_on words.now proposal.now) × Added (smooth_on words.now proposal.now) parts.old parts.new }
+fn judged(p: Proposal, n: usize, links: Tally, parts: &mut [i64]) -> Verdict
+    requires { Judging p.job.words.now p.words.now n links parts.old }
+    ensures { (result ≡ judged_on p.entry.job.words.now p.entry.words.now) × Added (smooth_on p.entry.job.words.now p.entry.words.now) parts.old parts.new }
 {
-    let rough = smooth::smoothed(words, proposal, n, parts);
-    let cells = gap::total_of(words, proposal, n, parts, links.total);
+    let rough = smooth::smoothed(p, n, parts);
+    let cells = gap::total_of(p, n, parts, links.total);
     let g = cells.total;
-    let t = words::tolerance_of(words);
+    let t = p.job.tolerance();
     if g <= t {
-        let loss = loss::loss(words, proposal, n, rough);
+        let loss = loss::loss(p, rough);
         return Ok(Figures { loss, gap: g });
     }
     Err(Refusal::GapAbove(place_of(n, cells, links)))
 }
 
-// The verdict on a proposal's words, n values and then the multipliers, against a job's words.
-fn check_words(words: &[i64], proposal: &[i64]) -> Verdict
-    requires { Given words.now proposal.now }
-    ensures { result ≡ verdict_for (job_of words.now) proposal.now }
+// The verdict on a proposal for a job.
+pub fn check_proposal(p: Proposal) -> Verdict
+    ensures { result ≡ verdict_for (job_of p.entry.job.words.now) p.entry.words.now }
 {
-    let n = words::cells_of(words);
+    let n = p.job.cells();
     let mut parts = [0i64; 120];
-    let tally = meet(words, proposal, n, &mut parts)?;
-    judged(words, proposal, n, tally, &mut parts)
-}
-
-// The verdict on the first k words of a proposal's.
-pub fn check_first(words: &[i64], proposal: &[i64], k: usize) -> Verdict
-    requires { (k ≤ length proposal.now) × Given words.now (take k proposal.now) }
-    ensures { result ≡ verdict_for (job_of words.now) (take k proposal.now) }
-{
-    check_words(words, &proposal[0..k])
-}
-
-// The same, against the first k words of a job's.
-fn check_parts(words: &[i64], k: usize, proposal: &[i64], m: usize) -> Verdict
-    requires { (k ≤ length words.now) × (m ≤ length proposal.now) × Given (take k words.now) (take m proposal.now) }
-    ensures { result ≡ verdict_for (job_of (take k words.now)) (take m proposal.now) }
-{
-    check_first(&words[0..k], proposal, m)
+    let tally = meet(p, n, &mut parts)?;
+    judged(p, n, tally, &mut parts)
 }
 
 // The check of a proposal pack against a job pack. The words of both go into what is lent, also those before a refusal: lend it room of your own.
@@ -82,7 +66,13 @@ pub fn check_into(
     ensures { (result ≡ check_of job.now proposal.now) × (words.new ≡ sets words.old 0 (read_job job.now).words) × (values.new ≡ sets values.old 0 (proposal_words job.now proposal.now)) }
 {
     let counts = open_both(job, proposal, words, values)?;
-    check_parts(words, counts.words, values, counts.values)
+    let read = ReadJob {
+        words: &words[..counts.words],
+    };
+    check_proposal(Proposal {
+        job: read,
+        words: &values[..counts.values],
+    })
 }
 
 // The same, with room of its own.

@@ -2,10 +2,10 @@
 ghost use Rattle.std.specs.Prelude.{◌≡◌, ◌+◌, ◌*◌, ◌≤◌, ◌<◌, ◌*ℤ◌};
 ghost use Rattle.certificate.specs.Differences.{form_at};
 ghost use Rattle.jobs.specs.Words.{word_at, cells_of};
-ghost use Rattle.measure.specs.Given.{Given, Differs, Losing};
-ghost use Rattle.measure.specs.OnWords.{fit_term_on, fit_on, loss_on};
+ghost use Rattle.measure.specs.Given.{Differs};
+ghost use Rattle.measure.specs.OnWords.{fit_term_on, fit_on, loss_on, rough_on};
 
-use jobs::words;
+use crate::proposed::Proposal;
 
 // The row's coefficient m times the rate that it falls on.
 fn difference_term(
@@ -36,33 +36,33 @@ pub fn difference_at(values: &[i64], row: &[i64; 5], z: usize, stride: usize, i:
 }
 
 // w(v - u)² of the cell i.
-fn fit_term(words: &[i64], values: &[i64], i: usize) -> i64
-    requires { Given words.now values.now × (i < cells_of words.now) }
-    ensures { result ≡ fit_term_on words.now values.now i }
+fn fit_term(p: Proposal, i: usize) -> i64
+    requires { i < cells_of p.job.words.now }
+    ensures { result ≡ fit_term_on p.entry.job.words.now p.entry.words.now i }
 {
-    let u = words::crude_at(words, i);
-    let w = words::weight_at(words, i);
-    let d = values[i] - u;
+    let u = p.job.crude(i);
+    let w = p.job.weight(i);
+    let d = p.words[i] - u;
     w * (d * d)
 }
 
 // The first part of the loss, over all n cells.
-fn fit(words: &[i64], values: &[i64], n: usize) -> i64
-    requires { Given words.now values.now × (n ≡ cells_of words.now) }
-    ensures { result ≡ fit_on words.now values.now }
+fn fit(p: Proposal) -> i64
+    ensures { result ≡ fit_on p.entry.job.words.now p.entry.words.now }
 {
+    let n = p.job.cells();
     let mut total = 0;
     for i in 0..n {
-        total += fit_term(words, values, i);
+        total += fit_term(p, i);
     }
     total
 }
 
 // F, from the roughness of the table.
-pub fn loss(words: &[i64], values: &[i64], n: usize, rough: i64) -> i64
-    requires { Losing words.now values.now n rough }
-    ensures { result ≡ loss_on words.now values.now }
+pub fn loss(p: Proposal, rough: i64) -> i64
+    requires { rough ≡ rough_on p.job.words.now p.words.now }
+    ensures { result ≡ loss_on p.entry.job.words.now p.entry.words.now }
 {
-    let part = fit(words, values, n);
+    let part = fit(p);
     part + rough
 }

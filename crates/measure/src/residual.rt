@@ -3,7 +3,7 @@ ghost use Rattle.std.specs.Prelude.{◌≡◌, pos, ◌+ℤ◌, ◌-ℤ◌, ◌*
 ghost use Rattle.measure.specs.Given.{Slopes, ResidualAt};
 ghost use Rattle.measure.specs.OnWords.{residual_with};
 
-use jobs::words;
+use crate::proposed::Proposal;
 
 // 2w(v - u) + part
 fn residual_from(w: i64, v: i64, u: i64, part: i64) -> i64
@@ -14,11 +14,11 @@ fn residual_from(w: i64, v: i64, u: i64, part: i64) -> i64
 }
 
 // The residual of the cell i, to which links and differences add `part`.
-pub fn residual_at(words: &[i64], values: &[i64], i: usize, part: i64) -> i64
-    requires { ResidualAt words.now values.now i part }
-    ensures { result ≡ residual_with words.now values.now i part }
+pub fn residual_at(p: Proposal, i: usize, part: i64) -> i64
+    requires { ResidualAt p.job.words.now p.words.now i part }
+    ensures { result ≡ residual_with p.entry.job.words.now p.entry.words.now i part }
 {
-    let w = words::weight_at(words, i);
-    let u = words::crude_at(words, i);
-    residual_from(w, values[i], u, part)
+    let w = p.job.weight(i);
+    let u = p.job.crude(i);
+    residual_from(w, p.words[i], u, part)
 }

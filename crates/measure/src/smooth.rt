@@ -8,8 +8,8 @@ ghost use Rattle.measure.specs.Given.{Differs, GivesBack, Smooths, Smoothing};
 ghost use Rattle.measure.specs.Running.{Added, back_at};
 ghost use Rattle.measure.specs.OnWords.{rough_on, smooth_on};
 
+use crate::proposed::Proposal;
 use crate::{links, loss};
-use jobs::words;
 
 // D at i, 0 where it would run over the end of the row of `width` cells in which it starts.
 fn difference_within(
@@ -74,16 +74,16 @@ fn smooth(
 }
 
 // A job's differences, down and across: what they add to the loss is answered, and what they add to the residuals goes into the parts.
-pub fn smoothed(words: &[i64], values: &[i64], n: usize, parts: &mut [i64]) -> i64
-    requires { Smoothing words.now values.now n parts.old }
-    ensures { (result ≡ rough_on words.now values.now) × Added (smooth_on words.now values.now) parts.old parts.new }
+pub fn smoothed(p: Proposal, n: usize, parts: &mut [i64]) -> i64
+    requires { Smoothing p.job.words.now p.words.now n parts.old }
+    ensures { (result ≡ rough_on p.entry.job.words.now p.entry.words.now) × Added (smooth_on p.entry.job.words.now p.entry.words.now) parts.old parts.new }
 {
-    let z = words::order_of(words);
-    let across = words::across_of(words);
-    let columns = words::columns_of(words);
-    let k = words::constant_of(words);
-    let second = words::second_of(words);
-    let down = smooth(values, n, z, columns, n, k, parts);
-    let along = smooth(values, n, across, 1, columns, second, parts);
+    let z = p.job.order();
+    let across = p.job.across();
+    let columns = p.job.columns();
+    let k = p.job.constant();
+    let second = p.job.second();
+    let down = smooth(p.words, n, z, columns, n, k, parts);
+    let along = smooth(p.words, n, across, 1, columns, second, parts);
     down + along
 }

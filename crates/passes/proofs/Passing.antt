@@ -1,19 +1,19 @@
 -- One link improved, and one pass: what the code has after each is what the definitions say.
-use Prim.Native.Nat.{ℕ, ◌+◌, ◌*◌, ◌≤◌, ◌<◌}
+use Prim.Native.Nat.{ℕ, ◌+◌, ◌*◌, ◌<◌}
 use mathlib.Core.Path.{◌≡◌, sym, ap, ap₂, subst, ◌∙◌}
 use mathlib.Core.List.{List}
-use native.Mathlib.Omega.{arith}
 use native.Mathlib.Numerals.{add-one}
 use lib.IntN.{ℤ}
 use lib.ListN.{get_or, set}
 use lib.Ieee.{Float, nan, binary64, sub, mul, of_int}
 use Rattle.jobs.specs.Words.{count_at, links_of, start_of, job_of}
+use Rattle.jobs.specs.declared.words.ReadJob.{ReadJob}
 use Rattle.jobs.proofs.Places.{start_suc}
 use Rattle.measure.specs.Given.{LinkAt}
 use Rattle.measure.proofs.Places.{link_at_lem}
 use Rattle.factor.specs.Solve.{solution_of}
 use Rattle.passes.specs.Hildreth.{Link, half, right_for, sum_over, raised_of, half_change, fallen_from, Improved, improved_of, State, with_link, link_of}
-use Rattle.passes.specs.OnWords.{link_at, state, Counted}
+use Rattle.passes.specs.OnWords.{link_at, state}
 
 -- ---- one link
 
@@ -43,19 +43,10 @@ next_state ws d l z n i {s} e v y h =
     ap {B = Improved} (λ (s : ℕ). improved_of d l z n (link_at ws s) (get_or y i nan) v) e in
     ap₂ {C = State} (λ (v : List Float) (new : Float). state v (set y i new)) (h.1 ∙ ap {B = List Float} (λ (i : Improved). i.values) q) (h.0 ∙ ap {B = Float} (λ (i : Improved). i.multiplier) q)
 
-module _ {ws : List ℤ} {n links : ℕ} (C : Counted ws n links) where
-  pub cells_most : n ≤ 120
-  cells_most = omega (arith, C.n_is, C.known.allowed.cells_few)
+module _ (job : ReadJob) (i : ℕ) {s : ℕ} (e : s ≡ start_of job.words.now i) where
+  pub at_link : i < links_of job.words.now → LinkAt job.words.now s
+  at_link h = subst (λ (x : ℕ). LinkAt job.words.now x) (sym e) (link_at_lem job.allowed job.laid i h)
 
-  pub links_most : links ≤ 160
-  links_most = omega (arith, C.links_is, C.known.allowed.links_few)
-
-  module _ {i s : ℕ} (h : i < links) (e : s ≡ start_of ws i) where
-    inside : i < links_of ws
-    inside = omega (arith, C.links_is)
-
-    pub at_link : LinkAt ws s
-    at_link = subst (λ (x : ℕ). LinkAt ws x) (sym e) (link_at_lem C.known.allowed C.known.laid i inside)
-
-    pub next_starts : {s' : ℕ} → s' ≡ s + 2 * count_at ws s + 2 → s' ≡ start_of ws (i + 1)
-    next_starts q = q ∙ ap (λ (x : ℕ). x + 2 * count_at ws x + 2) e ∙ sym (start_suc ws i) ∙ ap (start_of ws) (sym (add-one i))
+  pub next_starts : {s' : ℕ} → s' ≡ s + 2 * count_at job.words.now s + 2 → s' ≡ start_of job.words.now (i + 1)
+  next_starts q =
+      q ∙ ap (λ (x : ℕ). x + 2 * count_at job.words.now x + 2) e ∙ sym (start_suc job.words.now i) ∙ ap (start_of job.words.now) (sym (add-one i))

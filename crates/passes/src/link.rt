@@ -1,70 +1,77 @@
 // A link's own numbers: its coefficients as a right side, and its sum over the numbers of its cells.
-ghost use Rattle.std.specs.Prelude.{◌≡◌, ◌+◌, ◌*◌, ◌≤◌, ◌<◌};
+ghost use Rattle.std.specs.Prelude.{◌≡◌, ◌+◌, ◌*◌, ◌<◌};
 ghost use Rattle.std.specs.Float.{binary64};
 ghost use Rattle.std.specs.Float.Ieee.{of_int};
-ghost use Rattle.jobs.specs.Words.{word_at, count_at, cells_of};
+ghost use Rattle.jobs.specs.Words.{word_at, count_at};
 ghost use Rattle.measure.specs.Given.{LinkAt};
 ghost use Rattle.passes.specs.Hildreth.{right_for, sum_over};
-ghost use Rattle.passes.specs.OnWords.{link_at};
+ghost use Rattle.passes.specs.OnWords.{link_at, LinkAt-prop};
 
 use factor::CELLS;
 use house::band::cast;
-use jobs::words::count_at;
+use jobs::words::{ReadJob, count_at};
 use measure::links::bound_of;
 
-// The coefficient of the term m of the link that starts at s, cast.
-fn coefficient_at(words: &[i64], s: usize, m: usize) -> f64
-    requires { LinkAt words.now s × (m < count_at words.now s) }
-    ensures { result ≡ of_int binary64 (word_at words.now (s + 2 + 2 * m)) }
-{
-    let at = s + 2 + 2 * m;
-    cast(words[at])
+// A link of a job that was read, with the place where it starts among the words.
+#[derive(Clone, Copy)]
+pub struct Link<'a> {
+    pub job: ReadJob<'a>,
+    pub start: usize,
+    pub ghost at: { LinkAt job.words.now start } by { LinkAt-prop job.words.now start },
 }
 
-// The cell that the term m names.
-fn cell_at(words: &[i64], s: usize, m: usize) -> usize
-    requires { LinkAt words.now s × (m < count_at words.now s) }
-    ensures { result ≡ count_at words.now (s + 1 + 2 * m) }
-{
-    let at = s + 1 + 2 * m;
-    count_at(words, at)
-}
-
-// The bound, cast.
-pub fn bound_at(words: &[i64], s: usize) -> f64
-    requires { LinkAt words.now s }
-    ensures { result ≡ of_int binary64 (link_at words.now s).bound }
-{
-    let b = bound_of(words, s);
-    cast(b)
-}
-
-// The link's coefficients as a right side.
-pub fn right_for(words: &[i64], s: usize) -> [f64; CELLS]
-    requires { LinkAt words.now s × (cells_of words.now ≤ 120) }
-    ensures { result ≡ right_for (link_at words.now s) }
-{
-    let t = count_at(words, s);
-    let mut made = [0.0; CELLS];
-    for m in 0..t {
-        let cell = cell_at(words, s, m);
-        let a = coefficient_at(words, s, m);
-        made[cell] = a;
+impl<'a> Link<'a> {
+    // The coefficient of the term m, cast.
+    fn coefficient(self, m: usize) -> f64
+        requires { m < count_at self.job.words.now self.start }
+        ensures { result ≡ of_int binary64 (word_at self.entry.job.words.now (self.entry.start + 2 + 2 * m)) }
+    {
+        let at = self.start + 2 + 2 * m;
+        cast(self.job.words[at])
     }
-    made
-}
 
-// The link's coefficients times the numbers of its cells.
-pub fn sum_over(words: &[i64], s: usize, xs: &[f64; CELLS]) -> f64
-    requires { LinkAt words.now s × (cells_of words.now ≤ 120) }
-    ensures { result ≡ sum_over (link_at words.now s) xs.now }
-{
-    let t = count_at(words, s);
-    let mut total = 0.0;
-    for m in 0..t {
-        let cell = cell_at(words, s, m);
-        let a = coefficient_at(words, s, m);
-        total = total + a * xs[cell];
+    // The cell that the term m names.
+    fn cell(self, m: usize) -> usize
+        requires { m < count_at self.job.words.now self.start }
+        ensures { result ≡ count_at self.entry.job.words.now (self.entry.start + 1 + 2 * m) }
+    {
+        let at = self.start + 1 + 2 * m;
+        count_at(self.job.words, at)
     }
-    total
+
+    // The bound, cast.
+    pub fn bound(self) -> f64
+        ensures { result ≡ of_int binary64 (link_at self.entry.job.words.now self.entry.start).bound }
+    {
+        let b = bound_of(self.job.words, self.start);
+        cast(b)
+    }
+
+    // The coefficients as a right side.
+    pub fn right_for(self) -> [f64; CELLS]
+        ensures { result ≡ right_for (link_at self.entry.job.words.now self.entry.start) }
+    {
+        let t = count_at(self.job.words, self.start);
+        let mut made = [0.0; CELLS];
+        for m in 0..t {
+            let cell = self.cell(m);
+            let a = self.coefficient(m);
+            made[cell] = a;
+        }
+        made
+    }
+
+    // The coefficients times the numbers of the cells.
+    pub fn sum_over(self, xs: &[f64; CELLS]) -> f64
+        ensures { result ≡ sum_over (link_at self.entry.job.words.now self.entry.start) xs.now }
+    {
+        let t = count_at(self.job.words, self.start);
+        let mut total = 0.0;
+        for m in 0..t {
+            let cell = self.cell(m);
+            let a = self.coefficient(m);
+            total = total + a * xs[cell];
+        }
+        total
+    }
 }

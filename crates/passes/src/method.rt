@@ -1,14 +1,13 @@
 // Hildreth's method: one link's multiplier improved after the other. A link's solution is worked out anew at every pass: 160 of them kept would take 154 KB
 // of stack.
 ghost use Rattle.std.specs.Prelude.{◌≡◌, ◌≤◌};
-ghost use Rattle.jobs.specs.Words.{cells_of, job_of};
-ghost use Rattle.measure.specs.Given.{LinkAt};
+ghost use Rattle.jobs.specs.Words.{links_of, job_of};
 ghost use Rattle.passes.specs.Hildreth.{raised_of, fallen_from, improved_of, link_of, pass_from};
-ghost use Rattle.passes.specs.OnWords.{link_at, state, Counted};
+ghost use Rattle.passes.specs.OnWords.{link_at, state};
 
-use crate::link::{bound_at, right_for, sum_over};
+use crate::link::Link;
 use factor::{CELLS, Factor};
-use jobs::words::first_link_of;
+use jobs::words::ReadJob;
 use measure::links::next_start;
 
 // The most links a job has.
@@ -33,16 +32,15 @@ fn fall(v: &mut [f64; CELLS], x: &[f64; CELLS], h: f64, n: usize)
     }
 }
 
-// Improves the multiplier y of the link that starts at s, and lets the values fall.
-fn improve(words: &[i64], s: usize, factor: Factor, y: f64, v: &mut [f64; CELLS]) -> f64
-    requires { LinkAt words.now s × (cells_of words.now ≤ 120) }
-    ensures { (result ≡ (improved_of factor.entry.pivots.now factor.entry.multipliers.now factor.entry.reach factor.entry.cells (link_at words.now s) y v.old).multiplier) × (v.new ≡ (improved_of factor.entry.pivots.now factor.entry.multipliers.now factor.entry.reach factor.entry.cells (link_at words.now s) y v.old).values) }
+// Improves the multiplier y of a link, and lets the values fall.
+fn improve(link: Link, factor: Factor, y: f64, v: &mut [f64; CELLS]) -> f64
+    ensures { (result ≡ (improved_of factor.entry.pivots.now factor.entry.multipliers.now factor.entry.reach factor.entry.cells (link_at link.entry.job.words.now link.entry.start) y v.old).multiplier) × (v.new ≡ (improved_of factor.entry.pivots.now factor.entry.multipliers.now factor.entry.reach factor.entry.cells (link_at link.entry.job.words.now link.entry.start) y v.old).values) }
 {
-    let mut x = right_for(words, s);
+    let mut x = link.right_for();
     factor.solve(&mut x);
-    let c = sum_over(words, s, &x);
-    let sum = sum_over(words, s, v);
-    let b = bound_at(words, s);
+    let c = link.sum_over(&x);
+    let sum = link.sum_over(v);
+    let b = link.bound();
     let new = raised(y, sum, b, c);
     let h = 0.5 * (new - y);
     fall(v, &x, h, factor.cells);
@@ -50,15 +48,16 @@ fn improve(words: &[i64], s: usize, factor: Factor, y: f64, v: &mut [f64; CELLS]
 }
 
 // A pass: every link in turn.
-pub fn pass(words: &[i64], links: usize, factor: Factor, v: &mut [f64; CELLS], y: &mut [f64; LINKS])
-    requires { Counted words.now factor.cells links }
-    ensures { state v.new y.new ≡ pass_from factor.entry.pivots.now factor.entry.multipliers.now factor.entry.reach factor.entry.cells (link_of (job_of words.now)) links 0 (state v.old y.old) }
+pub fn pass(job: ReadJob, factor: Factor, v: &mut [f64; CELLS], y: &mut [f64; LINKS])
+    ensures { state v.new y.new ≡ pass_from factor.entry.pivots.now factor.entry.multipliers.now factor.entry.reach factor.entry.cells (link_of (job_of job.entry.words.now)) (links_of job.entry.words.now) 0 (state v.old y.old) }
 {
-    let mut s = first_link_of(words, factor.cells);
+    let links = job.links();
+    let mut s = job.first_link();
     for i in 0..links {
         let was = y[i];
-        let new = improve(words, s, factor, was, v);
+        let link = Link { job, start: s };
+        let new = improve(link, factor, was, v);
         y[i] = new;
-        s = next_start(words, s);
+        s = next_start(job.words, s);
     }
 }

@@ -11,4 +11,4 @@ abbrev pub lines : List ℤ → (n z : ℕ) → ℕ → List Float
 lines ws n z i = entries_of ((job_of ws).weight i) (job_of ws).constant n z i
 
 abbrev pub invariant-loop-i : goal.invariant-loop-i
-invariant-loop-i l = filled (lines l.words l.n l.z) (l.n - l.i) l.i l.made ≡ filled (lines l.words l.n l.z) l.n 0 l.initial.made
+invariant-loop-i l = filled (lines l.job.words.now l.n l.z) (l.n - l.i) l.i l.made ≡ filled (lines l.job.words.now l.n l.z) l.n 0 l.initial.made

@@ -10,4 +10,4 @@ abbrev pub products : List ℤ → ℕ → Float
 products ws i = of_int binary64 ((job_of ws).weight i *ℤ (job_of ws).crude i)
 
 abbrev pub invariant-loop-i : goal.invariant-loop-i
-invariant-loop-i l = filled (products l.words) (l.n - l.i) l.i l.made ≡ filled (products l.words) l.n 0 l.initial.made
+invariant-loop-i l = filled (products l.job.words.now) (l.n - l.i) l.i l.made ≡ filled (products l.job.words.now) l.n 0 l.initial.made

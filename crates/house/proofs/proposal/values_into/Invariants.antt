@@ -11,4 +11,4 @@ abbrev pub values : List ℤ → List Float → ℕ → ℤ
 values ws v i = value_of (job_of ws) i (get_or v i nan)
 
 abbrev pub invariant-loop-i : goal.invariant-loop-i
-invariant-loop-i l = (length l.made ≡ length l.initial.made) × (filled (values l.words l.v) (l.n - l.i) l.i l.made ≡ filled (values l.words l.v) l.n 0 l.initial.made)
+invariant-loop-i l = (length l.made ≡ length l.initial.made) × (filled (values l.job.words.now l.v) (l.n - l.i) l.i l.made ≡ filled (values l.job.words.now l.v) l.n 0 l.initial.made)

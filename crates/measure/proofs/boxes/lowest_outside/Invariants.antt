@@ -4,4 +4,4 @@ use Rattle.measure.specs.OnWords.{in_box_on}
 use Rattle.measure.proofs.boxes.lowest_outside.Given as goal
 
 abbrev pub invariant-loop-i : goal.invariant-loop-i
-invariant-loop-i l = Passed (in_box_on l.words l.values) l.i
+invariant-loop-i l = Passed (in_box_on l.p.job.words.now l.p.words.now) l.i

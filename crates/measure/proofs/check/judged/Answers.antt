@@ -11,15 +11,15 @@ total_of-cells-requires c = judge_totalling c.requires c.smoothed-rough.ensures.
 
 pub returns-then-g-t : goal.returns-then-g-t
 returns-then-g-t c = (
-  judged_accepts c.requires c.smoothed-rough.ensures.1 c.total_of-cells.ensures c.tolerance_of-t.ensures c.loss-loss.ensures c.if-g-t.true,
+  judged_accepts c.requires c.smoothed-rough.ensures.1 c.total_of-cells.ensures c.tolerance-t.ensures c.loss-loss.ensures c.if-g-t.true,
   c.smoothed-rough.ensures.1,
 )
 
 pub place_of-requires : goal.place_of-requires
-place_of-requires c = judge_led c.requires c.smoothed-rough.ensures.1 c.total_of-cells.ensures c.tolerance_of-t.ensures
+place_of-requires c = judge_led c.requires c.smoothed-rough.ensures.1 c.total_of-cells.ensures c.tolerance-t.ensures
 
 pub returns : goal.returns
 returns c = (
-  judged_refuses c.requires c.smoothed-rough.ensures.1 c.total_of-cells.ensures c.tolerance_of-t.ensures c.if-g-t.false c.place_of.ensures,
+  judged_refuses c.requires c.smoothed-rough.ensures.1 c.total_of-cells.ensures c.tolerance-t.ensures c.if-g-t.false c.place_of.ensures,
   c.smoothed-rough.ensures.1,
 )

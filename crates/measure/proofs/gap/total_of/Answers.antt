@@ -9,7 +9,7 @@ use Rattle.measure.proofs.Totalled.{total_amount, total_cell, total_next, total_
 use Rattle.measure.proofs.gap.total_of.Goals as goal
 
 pub loop-i-init : goal.loop-i-init
-loop-i-init c = (gives c.tolerance_of-tolerance.ensures (tolerance_fits c.requires.given.allowed.tolerance), c.no_terms-tally.ensures ∙ tally_starts (job_of c.args.words.now).tolerance _ (cell_term_on c.args.words.now c.args.proposal.now))
+loop-i-init c = (gives c.tolerance-tolerance.ensures (tolerance_fits c.requires.given.allowed.tolerance), c.no_terms-tally.ensures ∙ tally_starts (job_of c.args.p.job.words.now).tolerance _ (cell_term_on c.args.p.job.words.now c.args.p.words.now))
 
 pub residual_at-r-requires : goal.residual_at-r-requires
 residual_at-r-requires c = total_residual c.requires _ (omega arith)

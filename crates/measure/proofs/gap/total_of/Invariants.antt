@@ -6,4 +6,4 @@ use Rattle.measure.specs.OnWords.{cell_term_on}
 use Rattle.measure.proofs.gap.total_of.Given as goal
 
 abbrev pub invariant-loop-i : goal.invariant-loop-i
-invariant-loop-i l = ((l.tolerance ≡ (job_of l.words).tolerance) × (l.tally ≡ tallied_of (job_of l.words).tolerance (l.start) (cell_term_on l.words l.proposal) l.i))
+invariant-loop-i l = ((l.tolerance ≡ (job_of l.p.job.words.now).tolerance) × (l.tally ≡ tallied_of (job_of l.p.job.words.now).tolerance (l.start) (cell_term_on l.p.job.words.now l.p.words.now) l.i))

@@ -7,4 +7,4 @@ use Rattle.jobs.specs.Words.{count_at, word_at}
 use Rattle.measure.proofs.links.link_sum.Given as goal
 
 abbrev pub invariant-loop-m : goal.invariant-loop-m
-invariant-loop-m l = (l.total ≡ sum l.m (λ m. word_at l.words (l.s + 2 + 2 * m) *ℤ word_at l.values (count_at l.words (l.s + 1 + 2 * m))))
+invariant-loop-m l = (l.total ≡ sum l.m (λ m. word_at l.p.job.words.now (l.s + 2 + 2 * m) *ℤ word_at l.p.words.now (count_at l.p.job.words.now (l.s + 1 + 2 * m))))

@@ -5,4 +5,4 @@ use Rattle.measure.proofs.Walks.{Along}
 use Rattle.measure.proofs.links.walk.Given as goal
 
 abbrev pub invariant-loop-l : goal.invariant-loop-l
-invariant-loop-l l = ((l.tolerance ≡ (job_of l.words).tolerance) × Along l.words l.proposal l.initial.parts l.l l.s l.tally l.parts)
+invariant-loop-l l = ((l.tolerance ≡ (job_of l.p.job.words.now).tolerance) × Along l.p.job.words.now l.p.words.now l.initial.parts l.l l.s l.tally l.parts)

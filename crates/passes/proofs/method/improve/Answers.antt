@@ -7,11 +7,11 @@ use Rattle.passes.proofs.method.improve.Goals as goal
 pub returns : goal.returns
 unfolding of_bits
 returns c = let a = c.args in
-    improved_is a.factor.pivots.now a.factor.multipliers.now a.factor.reach a.factor.cells (link_at a.words.now a.s) a.y a.v.now
+    improved_is a.factor.pivots.now a.factor.multipliers.now a.factor.reach a.factor.cells (link_at a.link.job.words.now a.link.start) a.y a.v.now
     c.right_for-x.ensures
     c.solve.ensures
     c.sum_over-c.ensures
     c.sum_over-sum.ensures
-    c.bound_at-b.ensures
+    c.bound-b.ensures
     c.raised-new.ensures
     c.fall.ensures

@@ -7,4 +7,4 @@ use Rattle.passes.specs.OnWords.{state}
 use Rattle.passes.proofs.method.pass.Given as goal
 
 abbrev pub invariant-loop-i : goal.invariant-loop-i
-invariant-loop-i l = (l.s ≡ start_of l.words l.i) × (pass_from l.factor.pivots.now l.factor.multipliers.now l.factor.reach l.factor.cells (link_of (job_of l.words)) (l.links - l.i) l.i (state l.v l.y) ≡ pass_from l.factor.pivots.now l.factor.multipliers.now l.factor.reach l.factor.cells (link_of (job_of l.words)) l.links 0 (state l.initial.v l.initial.y))
+invariant-loop-i l = (l.s ≡ start_of l.job.words.now l.i) × (pass_from l.factor.pivots.now l.factor.multipliers.now l.factor.reach l.factor.cells (link_of (job_of l.job.words.now)) (l.links - l.i) l.i (state l.v l.y) ≡ pass_from l.factor.pivots.now l.factor.multipliers.now l.factor.reach l.factor.cells (link_of (job_of l.job.words.now)) l.links 0 (state l.initial.v l.initial.y))

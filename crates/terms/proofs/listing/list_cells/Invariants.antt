@@ -6,4 +6,4 @@ use Rattle.terms.specs.Steps.{entries_on}
 use Rattle.terms.proofs.listing.list_cells.Given as goal
 
 abbrev pub invariant-loop-i : goal.invariant-loop-i
-invariant-loop-i l = ((length l.out ≡ length l.initial.out) × (l.out ≡ sets l.initial.out 0 (entries_on l.words l.proposal l.i)))
+invariant-loop-i l = ((length l.out ≡ length l.initial.out) × (l.out ≡ sets l.initial.out 0 (entries_on l.p.job.words.now l.p.words.now l.i)))

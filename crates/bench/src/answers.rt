@@ -14,7 +14,8 @@ use std::num::wrapping_add_u64;
 // The words of an answer.
 pub const ANSWER_WORDS: usize = 4;
 
-// What a call returns whose answer slice is not that long: 13, place 4.
+// What a call returns whose answer slice is not that long: 13, place 4. Each call tests that itself: what stands between the test and `give` lends other
+// slices, and a closure of it would have to say all that the call says.
 pub const NO_ANSWER: u64 = 141;
 
 // A place counts 32 times in the number returned.

@@ -60,7 +60,8 @@ fn put_made(lj: &[f64], l: &mut [f64], starts: &[u16; STARTS], j: usize, z: usiz
     put_row(&lj[0..count], l, at);
 }
 
-// The factor of the first n rows of a band, into lent pivots and multipliers: the rows made stand there, cell by cell.
+// The factor of the first n rows of a band, into lent pivots and multipliers: the rows made stand there, cell by cell. They are lent apart, since a
+// `Factor` borrows both as they are. A row of a grid is made and held by another rule, so `Rows::factor` is a function of its own.
 pub fn factor_band(
     band: [[f64; 5]; CELLS],
     n: usize,

@@ -38,7 +38,8 @@ fn pair_of(line: &[u8]) -> Option<Entry>
     })
 }
 
-// The fields of a line: three of a claims list, two of an export.
+// The fields of a line: three of a claims list, two of an export. Which list it is stays a bit, as the definitions have it: it picks a header, a count
+// of fields and a test, and three closures would say no more.
 fn fields_of(claims: bool, line: &[u8]) -> Option<Entry>
     ensures { result ≡ fields_of claims line.now }
 {

@@ -23,7 +23,7 @@ fn difference_term(
     row[m] * values[at]
 }
 
-// D at i, of any row, order and stride.
+// D at i, of any row, order and stride. (Of `0..=z` the end of the range stays open in the proof.)
 pub fn difference_at(values: &[i64], row: &[i64; 5], z: usize, stride: usize, i: usize) -> i64
     requires { Differs row.now z stride i values.now }
     ensures { result ≡ form_at (word_at row.now) z stride i (word_at values.now) }

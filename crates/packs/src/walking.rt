@@ -92,12 +92,10 @@ fn tested(source: Source, f: Field, n: Number, at: usize) -> Result<Option<Taken
     requires { n.value < 2 ^ 63 }
     ensures { result ≡ settled (kept_of (writes source.entry) f n.value) at n.next (step_of f n.value) }
 {
+    let word = kept_of(source, f, n.value);
+    let next = n.next;
     match fields::after(f, n.value) {
-        Ok(field) => {
-            let word = kept_of(source, f, n.value);
-            let next = n.next;
-            Ok(Some(Taken { field, word, next }))
-        }
+        Ok(field) => Ok(Some(Taken { field, word, next })),
         Err(Barred::Unallowed) => Err(Refusal::NotAllowed(at)),
         Err(Barred::Other(r)) => Err(r),
     }

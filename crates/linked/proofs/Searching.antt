@@ -8,30 +8,24 @@ use native.Mathlib.Numerals.{add-one}
 use lib.IntN.{ℤ}
 use lib.Ieee.{Float}
 use Rattle.jobs.specs.Job.{Job}
-use Rattle.jobs.specs.Words.{job_of}
+use Rattle.jobs.specs.Words.{links_of, job_of}
 use Rattle.measure.proofs.Lowest.{Passed, lowest_all, lowest_at}
 use Rattle.passes.specs.Hildreth.{State, link_of, pass_from, pass_of, after_pass}
 use Rattle.checked.specs.Answers.{accepted}
 use Rattle.linked.specs.Proposal.{verdict_after, accepted_at, passes_before}
-use Rattle.passes.specs.OnWords.{state, Counted}
+use Rattle.passes.specs.OnWords.{state}
 use Rattle.factor.specs.declared.Factor.{Factor}
-use Rattle.linked.specs.Given.{Starting}
+use Rattle.linked.specs.Given.{Factored}
 
 -- the pass after i others is not accepted
 abbrev pub rejects : Job → ℕ → Bool
 rejects j i = not (accepted_at j (suc i))
 
--- what a pass counts on
-module _ {ws : List ℤ} {f : Factor} {links given : ℕ} {v₀ y₀ : List Float} (S : Starting ws f links given v₀ y₀) where
-  pub counted : Counted ws f.cells links
-  counted = record { known = S.factored.known; n_is = S.factored.n_is; links_is = S.links_is }
-
-  module _ {v y : List Float} (p : ℕ) (e : state v y ≡ after_pass (job_of ws) p) where
-    pub passed_is : {s : State} → s ≡ pass_from f.pivots.now f.multipliers.now f.reach f.cells (link_of (job_of ws)) links 0 (state v y) → s ≡ after_pass (job_of ws) (suc p)
-    unfolding after_pass
-    passed_is h =
-        let F = S.factored in
-        h ∙ rw (F.d_is, F.l_is, F.z_is, F.n_is, S.links_is) (ap {B = State} (pass_of (job_of ws)) e)
+-- what a pass leaves
+module _ {ws : List ℤ} {f : Factor} (F : Factored ws f) {v y : List Float} (p : ℕ) (e : state v y ≡ after_pass (job_of ws) p) where
+  pub passed_is : {s : State} → s ≡ pass_from f.pivots.now f.multipliers.now f.reach f.cells (link_of (job_of ws)) (links_of ws) 0 (state v y) → s ≡ after_pass (job_of ws) (suc p)
+  unfolding after_pass
+  passed_is h = h ∙ rw (F.d_is, F.l_is, F.z_is, F.n_is) (ap {B = State} (pass_of (job_of ws)) e)
 
 module _ (j : Job) (p : ℕ) {s : State} (e : s ≡ after_pass j (suc p)) {r : Bool} (q : r ≡ accepted (verdict_after j s)) where
   pub rejects_is : {b : Bool} → r ≡ b → rejects j p ≡ not b

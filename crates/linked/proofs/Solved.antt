@@ -13,13 +13,13 @@ use Rattle.jobs.specs.Words.{cells_of, columns_of, order_of, job_of}
 use Rattle.factor.specs.Factor.{Ending}
 use Rattle.factor.specs.Places.{Starts, Placed}
 use Rattle.factor.proofs.Turns.{factor_length}
-use Rattle.house.specs.Known.{Known}
+use Rattle.jobs.specs.declared.words.ReadJob.{ReadJob}
 use Rattle.house.specs.Band.{band_of}
 use Rattle.house.specs.Factoring.{Solved, Solves, front, HandsOut, rows_of, solved_with}
 use Rattle.house.specs.Grid.{reach, grid_rows, grid_solved}
-use Rattle.house.specs.Held.{Narrow}
+use Rattle.house.specs.declared.grid.Grid.{Grid}
 use Rattle.house.specs.Proposal.{line_solved, solved_of}
-use Rattle.house.proofs.Told.{cells_few, order_few}
+use Rattle.house.proofs.Told.{known, cells_few, order_few}
 use Rattle.house.proofs.Shaped.{one_column, more_columns}
 use Rattle.house.proofs.Places.{reach_few}
 use Rattle.house.proofs.Solving.{line_is, grid_is, line_places, grid_places, pivots_length}
@@ -50,27 +50,26 @@ unfolding grid_solved solved_with
 grid_room j = factor_length (grid_rows j) (reach j) j.cells 0 _ _
 
 -- there is room for the rows that were made
-module _ {ws : List ℤ} (k : Known ws) {n : ℕ} (en : n ≡ cells_of ws) where
-  few : n ≤ 120
-  few = omega (arith, en, cells_few k)
+pub few : (job : ReadJob) {n : ℕ} → n ≡ cells_of job.words.now → n ≤ 120
+few job en = omega (arith, en, cells_few (known job))
 
-  module _ {z : ℕ} {starts : List ℕ} (st : Starts z n starts) {e : Ending} {d l v : List Float} where
-    pub line_fits : z ≡ order_of ws → Solves (line_solved (job_of ws)) e d l v → Placed z n starts l
-    line_fits ez h = line_places st few (omega (arith, ez, order_few k)) (ap length h.2 ∙ line_room (job_of ws))
+module _ {z n : ℕ} {starts : List ℕ} (st : Starts z n starts) {e : Ending} {d l v : List Float} where
+  pub line_fits : (job : ReadJob) → n ≡ cells_of job.words.now → z ≡ order_of job.words.now → Solves (line_solved (job_of job.words.now)) e d l v → Placed z n starts l
+  line_fits job en ez h = line_places st (few job en) (omega (arith, ez, order_few (known job))) (ap length h.2 ∙ line_room (job_of job.words.now))
 
-    pub grid_fits : Narrow ws z → Solves (grid_solved (job_of ws)) e d l v → Placed z n starts l
-    grid_fits narrow h = grid_places st few (omega (arith, narrow.reach_is, reach_few k narrow.columns_few)) (ap length h.2 ∙ grid_room (job_of ws))
+  pub grid_fits : (grid : Grid) → n ≡ cells_of grid.job.words.now → z ≡ grid.z → Solves (grid_solved (job_of grid.job.words.now)) e d l v → Placed z n starts l
+  grid_fits grid en ez h =
+      grid_places st (few grid.job en) (omega (arith, ez, grid.reach_is, reach_few (known grid.job) grid.columns_few)) (ap length h.2 ∙ grid_room (job_of grid.job.words.now))
 
 -- what is known after a solve
 abbrev Ready : List ℤ → Factor → Ending → (v : List Float) → Type 0
 Ready ws f e v = (e ≡ (solved_of (job_of ws)).ending) × Factored ws f × (v ≡ (solved_of (job_of ws)).values)
 
-module _ {ws : List ℤ} (k : Known ws) {f : Factor} (en : f.cells ≡ cells_of ws) {e : Ending} {v : List Float} where
+module _ {ws : List ℤ} {f : Factor} (en : f.cells ≡ cells_of ws) {e : Ending} {v : List Float} where
   ready : f.reach ≡ reach (job_of ws) → {s : Solved} → s ≡ solved_of (job_of ws) → Solves s e f.pivots.now f.multipliers.now v → Ready ws f e v
   ready ez p h = (
     h.0 ∙ ap {B = Ending} (λ (s : Solved). s.ending) p,
     record {
-      known = k;
       n_is = en;
       z_is = ez;
       d_is = h.1 ∙ ap {B = List Float} (λ (s : Solved). s.pivots) p;
@@ -79,8 +78,12 @@ module _ {ws : List ℤ} (k : Known ws) {f : Factor} (en : f.cells ≡ cells_of 
     h.3 ∙ ap {B = List Float} (λ (s : Solved). s.values) p,
   )
 
-  pub line_ready : columns_of ws ≡ 1 → f.reach ≡ order_of ws → Solves (line_solved (job_of ws)) e f.pivots.now f.multipliers.now v → Ready ws f e v
-  line_ready one ez h = ready (ez ∙ sym (N.mul-one (order_of ws)) ∙ ap (λ (c : ℕ). order_of ws * c) (sym one)) (line_is (job_of ws) (one_column k one)) h
+module _ (job : ReadJob) {f : Factor} (en : f.cells ≡ cells_of job.words.now) {e : Ending} {v : List Float} where
+  pub line_ready : columns_of job.words.now ≡ 1 → f.reach ≡ order_of job.words.now → Solves (line_solved (job_of job.words.now)) e f.pivots.now f.multipliers.now v → Ready job.words.now f e v
+  line_ready one ez h =
+      let ws = job.words.now in
+      ready {ws = ws} {f = f} en (ez ∙ sym (N.mul-one (order_of ws)) ∙ ap (λ (c : ℕ). order_of ws * c) (sym one)) (line_is (job_of ws) (one_column (known job) one)) h
 
-  pub grid_ready : (columns_of ws ≡ 1 → ⊥) → Narrow ws f.reach → Solves (grid_solved (job_of ws)) e f.pivots.now f.multipliers.now v → Ready ws f e v
-  grid_ready more narrow h = ready narrow.reach_is (grid_is (job_of ws) (more_columns k more)) h
+module _ (grid : Grid) {f : Factor} (en : f.cells ≡ cells_of grid.job.words.now) {e : Ending} {v : List Float} where
+  pub grid_ready : (columns_of grid.job.words.now ≡ 1 → ⊥) → f.reach ≡ grid.z → Solves (grid_solved (job_of grid.job.words.now)) e f.pivots.now f.multipliers.now v → Ready grid.job.words.now f e v
+  grid_ready more ez h = let ws = grid.job.words.now in ready {ws = ws} {f = f} en (ez ∙ grid.reach_is) (grid_is (job_of grid.job.words.now) (more_columns (known grid.job) more)) h

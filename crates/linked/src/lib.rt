@@ -3,14 +3,13 @@
 
 ghost use Rattle.std.specs.Prelude.{◌≤◌, length};
 ghost use Rattle.jobs.specs.Words.{job_of};
-ghost use Rattle.house.specs.Known.{Known};
 ghost use Rattle.linked.specs.Proposal.{Ends, linked_for, linked_of};
 
 use crate::search::search_shape;
 use fields::Field;
 use house::proposal::COLUMNS;
 use jobs::job::JOB_WORDS;
-use jobs::words::columns_of;
+use jobs::words::ReadJob;
 use refusals::Refusal;
 
 pub mod rounded;
@@ -26,16 +25,16 @@ pub struct Offer {
     pub passes: u64,
 }
 
-// The proposal for the words of a job that was read.
-fn propose_for(words: &[i64], given: u64, out: &mut [u8]) -> Result<Offer, Refusal>
-    requires { Known words.now × (given ≤ 200) }
-    ensures { Ends (linked_for (length out.old) given (job_of words.now)) out.old result out.new }
+// The proposal for a job that was read.
+fn propose_for(job: ReadJob, given: u64, out: &mut [u8]) -> Result<Offer, Refusal>
+    requires { given ≤ 200 }
+    ensures { Ends (linked_for (length out.old) given (job_of job.entry.words.now)) out.old result out.new }
 {
-    let columns = columns_of(words);
+    let columns = job.columns();
     if COLUMNS < columns {
         return Err(Refusal::NotProposed);
     }
-    search_shape(words, columns, given, out)
+    search_shape(job, columns, given, out)
 }
 
 // The house proposal that honours links, for a job pack and at most so many passes. A refusal writes nothing; room is tested last.
@@ -47,5 +46,8 @@ pub fn propose_linked(job: &[u8], passes: u64, out: &mut [u8]) -> Result<Offer, 
     }
     let mut words = [0i64; JOB_WORDS];
     let k = packs::reading::read(job, Field::Society, &mut words)?;
-    propose_for(&words[0..k], passes, out)
+    let job = ReadJob {
+        words: &words[0..k],
+    };
+    propose_for(job, passes, out)
 }

@@ -2,18 +2,20 @@
 ghost use Rattle.std.specs.Prelude.{◌≡◌, ◌-◌, pos, length, get_or, replicate};
 ghost use Rattle.std.specs.Float.{nan};
 ghost use Rattle.packs.specs.Writing.{Leaves};
-ghost use Rattle.jobs.specs.Words.{job_of};
+ghost use Rattle.jobs.specs.Words.{cells_of, links_of, job_of};
 ghost use Rattle.checked.specs.Answers.{accepted};
 ghost use Rattle.house.specs.Filled.{filled};
 ghost use Rattle.house.specs.Proposal.{value_of};
-ghost use Rattle.passes.specs.OnWords.{state, Counted};
+ghost use Rattle.passes.specs.OnWords.{state};
 ghost use Rattle.linked.specs.Proposal.{multiplier_word, verdict_after, written_after};
 
 use factor::CELLS;
 use house::proposal::values_into;
 use house::rounding::round_out;
 use jobs::proposal::PROPOSAL_WORDS;
-use measure::check::check_first;
+use jobs::words::ReadJob;
+use measure::check::check_proposal;
+use measure::proposed::Proposal;
 use passes::method::LINKS;
 use refusals::Refusal;
 
@@ -28,19 +30,14 @@ fn multiplier_word(y: f64) -> i64
 }
 
 // The words of the proposal: values, then multipliers, and zeros after them.
-fn words_after(
-    words: &[i64],
-    n: usize,
-    links: usize,
-    v: &[f64; CELLS],
-    y: &[f64; LINKS],
-) -> [i64; PROPOSAL_WORDS]
-    requires { Counted words.now n links }
-    ensures { result ≡ filled (λ i. multiplier_word (get_or y.now (i - n) nan)) links n (filled (λ i. value_of (job_of words.now) i (get_or v.now i nan)) n 0 (replicate 280 (pos 0))) }
+fn words_after(job: ReadJob, v: &[f64; CELLS], y: &[f64; LINKS]) -> [i64; PROPOSAL_WORDS]
+    ensures { result ≡ filled (λ i. multiplier_word (get_or y.now (i - cells_of job.entry.words.now) nan)) (links_of job.entry.words.now) (cells_of job.entry.words.now) (filled (λ i. value_of (job_of job.entry.words.now) i (get_or v.now i nan)) (cells_of job.entry.words.now) 0 (replicate 280 (pos 0))) }
 {
+    let n = job.cells();
+    let links = job.links();
     let count = n + links;
     let mut made = [0i64; PROPOSAL_WORDS];
-    values_into(words, n, v, &mut made);
+    values_into(job, v, &mut made);
     for at in n..count {
         made[at] = multiplier_word(y[at - n]);
     }
@@ -48,28 +45,28 @@ fn words_after(
 }
 
 // Whether the check accepts the proposal.
-pub fn accepts(words: &[i64], n: usize, links: usize, v: &[f64; CELLS], y: &[f64; LINKS]) -> bool
-    requires { Counted words.now n links }
-    ensures { result ≡ accepted (verdict_after (job_of words.now) (state v.now y.now)) }
+pub fn accepts(job: ReadJob, v: &[f64; CELLS], y: &[f64; LINKS]) -> bool
+    ensures { result ≡ accepted (verdict_after (job_of job.entry.words.now) (state v.now y.now)) }
 {
-    let made = words_after(words, n, links, v, y);
-    let count = n + links;
-    check_first(words, &made, count).is_ok()
+    let made = words_after(job, v, y);
+    let count = job.cells() + job.links();
+    let p = Proposal {
+        job,
+        words: &made[0..count],
+    };
+    check_proposal(p).is_ok()
 }
 
 // Writes the proposal's pack.
 pub fn write_after(
-    words: &[i64],
-    n: usize,
-    links: usize,
+    job: ReadJob,
     v: &[f64; CELLS],
     y: &[f64; LINKS],
     out: &mut [u8],
 ) -> Result<usize, Refusal>
-    requires { Counted words.now n links }
-    ensures { Leaves (written_after (length out.old) (job_of words.now) (state v.now y.now)) out.old result out.new }
+    ensures { Leaves (written_after (length out.old) (job_of job.entry.words.now) (state v.now y.now)) out.old result out.new }
 {
-    let made = words_after(words, n, links, v, y);
-    let count = n + links;
+    let made = words_after(job, v, y);
+    let count = job.cells() + job.links();
     packs::writing::put(&made[0..count], out)
 }

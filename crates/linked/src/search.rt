@@ -1,8 +1,6 @@
 // Pass after pass from the house's values before rounding, up to the first whose proposal is accepted.
 ghost use Rattle.std.specs.Prelude.{◌≡◌, suc, ◌≤◌, min, length};
-ghost use Rattle.jobs.specs.Words.{columns_of, order_of, job_of};
-ghost use Rattle.house.specs.Known.{Known};
-ghost use Rattle.house.specs.Held.{Narrow};
+ghost use Rattle.jobs.specs.Words.{columns_of, job_of};
 ghost use Rattle.house.specs.Proposal.{solved_of};
 ghost use Rattle.passes.specs.Hildreth.{after_pass};
 ghost use Rattle.passes.specs.OnWords.{state};
@@ -14,27 +12,26 @@ use crate::rounded::{accepts, write_after};
 use factor::{CELLS, Factor, Thin, starts_of};
 use house::band::right;
 use house::factoring::{LINE_PLACES, solve_line_into};
-use house::grid::{GRID_PLACES, solve_grid};
-use jobs::words::{cells_of, links_of, order_of};
+use house::grid::{GRID_PLACES, Grid, solve_grid};
+use jobs::words::ReadJob;
 use passes::method::{LINKS, pass};
 use refusals::Refusal;
 
 // How many passes come before the first whose proposal is accepted, or the number given where none is, as `passes_before` answers. Values and
 // multipliers stay as they are then.
 fn search(
-    words: &[i64],
-    links: usize,
+    job: ReadJob,
     factor: Factor,
     given: u64,
     v: &mut [f64; CELLS],
     y: &mut [f64; LINKS],
 ) -> u64
-    requires { Starting words.now factor links given v.old y.old }
-    ensures { (result ≡ passes_before (job_of words.now) given) × (state v.new y.new ≡ after_pass (job_of words.now) (min (suc (passes_before (job_of words.now) given)) given)) }
+    requires { Starting job.words.now factor given v.old y.old }
+    ensures { (result ≡ passes_before (job_of job.entry.words.now) given) × (state v.new y.new ≡ after_pass (job_of job.entry.words.now) (min (suc (passes_before (job_of job.entry.words.now) given)) given)) }
 {
     for p in 0..given {
-        pass(words, links, factor, v, y);
-        if accepts(words, factor.cells, links, v, y) {
+        pass(job, factor, v, y);
+        if accepts(job, v, y) {
             return p;
         }
     }
@@ -43,22 +40,21 @@ fn search(
 
 // The search from the house's values before rounding, and what it offers.
 fn improve_from(
-    words: &[i64],
+    job: ReadJob,
     factor: Factor,
     given: u64,
     v: &mut [f64; CELLS],
     out: &mut [u8],
 ) -> Result<Offer, Refusal>
-    requires { Factored words.now factor × (v.old ≡ (solved_of (job_of words.now)).values) × (given ≤ 200) }
-    ensures { Ends (on_first (length out.old) given (job_of words.now) (passes_before (job_of words.now) given)) out.old result out.new }
+    requires { Factored job.words.now factor × (v.old ≡ (solved_of (job_of job.words.now)).values) × (given ≤ 200) }
+    ensures { Ends (on_first (length out.old) given (job_of job.entry.words.now) (passes_before (job_of job.entry.words.now) given)) out.old result out.new }
 {
-    let links = links_of(words, factor.cells);
     let mut y = [0.0; LINKS];
-    let before = search(words, links, factor, given, v, &mut y);
+    let before = search(job, factor, given, v, &mut y);
     if given <= before {
         return Err(Refusal::NotReached(given as usize));
     }
-    let bytes = write_after(words, factor.cells, links, v, &y, out)?;
+    let bytes = write_after(job, v, &y, out)?;
     Ok(Offer {
         bytes,
         passes: before + 1,
@@ -68,32 +64,33 @@ fn improve_from(
 // The offer by how the factoring ended.
 fn on_ending(
     ending: Result<(), Thin>,
-    words: &[i64],
+    job: ReadJob,
     factor: Factor,
     given: u64,
     v: &mut [f64; CELLS],
     out: &mut [u8],
 ) -> Result<Offer, Refusal>
-    requires { (ending ≡ (solved_of (job_of words.now)).ending) × Factored words.now factor × (v.old ≡ (solved_of (job_of words.now)).values) × (given ≤ 200) }
-    ensures { Ends (on_ending (length out.old) given (job_of words.now) (solved_of (job_of words.now)).ending) out.old result out.new }
+    requires { (ending ≡ (solved_of (job_of job.words.now)).ending) × Factored job.words.now factor × (v.old ≡ (solved_of (job_of job.words.now)).values) × (given ≤ 200) }
+    ensures { Ends (on_ending (length out.old) given (job_of job.entry.words.now) (solved_of (job_of job.entry.words.now)).ending) out.old result out.new }
 {
     if let Err(thin) = ending {
         return Err(Refusal::TooThin(thin.cell));
     }
-    improve_from(words, factor, given, v, out)
+    improve_from(job, factor, given, v, out)
 }
 
 // The offer for a line, and for a grid, each with room for its own factor.
-fn search_line(words: &[i64], z: usize, given: u64, out: &mut [u8]) -> Result<Offer, Refusal>
-    requires { Known words.now × (columns_of words.now ≡ 1) × (z ≡ order_of words.now) × (given ≤ 200) }
-    ensures { Ends (on_ending (length out.old) given (job_of words.now) (solved_of (job_of words.now)).ending) out.old result out.new }
+fn search_line(job: ReadJob, given: u64, out: &mut [u8]) -> Result<Offer, Refusal>
+    requires { (columns_of job.words.now ≡ 1) × (given ≤ 200) }
+    ensures { Ends (on_ending (length out.old) given (job_of job.entry.words.now) (solved_of (job_of job.entry.words.now)).ending) out.old result out.new }
 {
-    let n = cells_of(words);
+    let n = job.cells();
+    let z = job.order();
     let mut v = [0.0; CELLS];
-    right(words, &mut v);
+    right(job, &mut v);
     let mut d = [0.0; CELLS];
     let mut l = [0.0; LINE_PLACES];
-    let ending = solve_line_into(words, z, &mut v, &mut d, &mut l);
+    let ending = solve_line_into(job, &mut v, &mut d, &mut l);
     let starts = starts_of(n, z);
     let factor = Factor {
         pivots: &d,
@@ -102,65 +99,66 @@ fn search_line(words: &[i64], z: usize, given: u64, out: &mut [u8]) -> Result<Of
         cells: n,
         reach: z,
     };
-    on_ending(ending, words, factor, given, &mut v, out)
+    on_ending(ending, job, factor, given, &mut v, out)
 }
 
-fn search_grid(words: &[i64], z: usize, given: u64, out: &mut [u8]) -> Result<Offer, Refusal>
-    requires { Narrow words.now z × (columns_of words.now ≡ 1 → ⊥) × (given ≤ 200) }
-    ensures { Ends (on_ending (length out.old) given (job_of words.now) (solved_of (job_of words.now)).ending) out.old result out.new }
+fn search_grid(grid: Grid, given: u64, out: &mut [u8]) -> Result<Offer, Refusal>
+    requires { (columns_of grid.job.words.now ≡ 1 → ⊥) × (given ≤ 200) }
+    ensures { Ends (on_ending (length out.old) given (job_of grid.entry.job.words.now) (solved_of (job_of grid.entry.job.words.now)).ending) out.old result out.new }
 {
-    let n = cells_of(words);
-    let starts = starts_of(n, z);
+    let n = grid.job.cells();
+    let starts = starts_of(n, grid.z);
     let mut d = [0.0; CELLS];
     let mut l = [0.0; GRID_PLACES];
     let mut v = [0.0; CELLS];
-    right(words, &mut v);
-    let ending = solve_grid(words, z, &starts, &mut d, &mut l, &mut v);
+    right(grid.job, &mut v);
+    let ending = solve_grid(grid, &starts, &mut d, &mut l, &mut v);
     let factor = Factor {
         pivots: &d,
         multipliers: &l,
         starts: &starts,
         cells: n,
-        reach: z,
+        reach: grid.z,
     };
-    on_ending(ending, words, factor, given, &mut v, out)
+    on_ending(ending, grid.job, factor, given, &mut v, out)
 }
 
 // The same of a low order, and a grid of a small reach: with these, as at the house proposal, a line does not pay for a grid's room.
-fn search_low_line(words: &[i64], z: usize, given: u64, out: &mut [u8]) -> Result<Offer, Refusal>
-    requires { Known words.now × (columns_of words.now ≡ 1) × (z ≡ order_of words.now) × (given ≤ 200) }
-    ensures { Ends (on_ending (length out.old) given (job_of words.now) (solved_of (job_of words.now)).ending) out.old result out.new }
+fn search_low_line(job: ReadJob, given: u64, out: &mut [u8]) -> Result<Offer, Refusal>
+    requires { (columns_of job.words.now ≡ 1) × (given ≤ 200) }
+    ensures { Ends (on_ending (length out.old) given (job_of job.entry.words.now) (solved_of (job_of job.entry.words.now)).ending) out.old result out.new }
 {
-    search_line(words, z, given, out)
+    search_line(job, given, out)
 }
 
-fn search_small_grid(words: &[i64], z: usize, given: u64, out: &mut [u8]) -> Result<Offer, Refusal>
-    requires { Narrow words.now z × (columns_of words.now ≡ 1 → ⊥) × (given ≤ 200) }
-    ensures { Ends (on_ending (length out.old) given (job_of words.now) (solved_of (job_of words.now)).ending) out.old result out.new }
+fn search_small_grid(grid: Grid, given: u64, out: &mut [u8]) -> Result<Offer, Refusal>
+    requires { (columns_of grid.job.words.now ≡ 1 → ⊥) × (given ≤ 200) }
+    ensures { Ends (on_ending (length out.old) given (job_of grid.entry.job.words.now) (solved_of (job_of grid.entry.job.words.now)).ending) out.old result out.new }
 {
-    search_grid(words, z, given, out)
+    search_grid(grid, given, out)
 }
 
 // The offer by what the job is. A job that is no grid has one column.
 pub fn search_shape(
-    words: &[i64],
+    job: ReadJob,
     columns: usize,
     given: u64,
     out: &mut [u8],
 ) -> Result<Offer, Refusal>
-    requires { Known words.now × (columns ≡ columns_of words.now) × (columns ≤ 12) × (given ≤ 200) }
-    ensures { Ends (on_ending (length out.old) given (job_of words.now) (solved_of (job_of words.now)).ending) out.old result out.new }
+    requires { (columns ≡ columns_of job.words.now) × (columns ≤ 12) × (given ≤ 200) }
+    ensures { Ends (on_ending (length out.old) given (job_of job.entry.words.now) (solved_of (job_of job.entry.words.now)).ending) out.old result out.new }
 {
-    let order = order_of(words);
+    let order = job.order();
     if columns == 1 {
         if order <= 2 {
-            return search_low_line(words, order, given, out);
+            return search_low_line(job, given, out);
         }
-        return search_line(words, order, given, out);
+        return search_line(job, given, out);
     }
     let z = order * columns;
+    let grid = Grid { job, z };
     if z <= 12 {
-        return search_small_grid(words, z, given, out);
+        return search_small_grid(grid, given, out);
     }
-    search_grid(words, z, given, out)
+    search_grid(grid, given, out)
 }

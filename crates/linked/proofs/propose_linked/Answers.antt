@@ -8,12 +8,14 @@ use Rattle.house.proofs.Handing.{part_known}
 use Rattle.linked.proofs.Answering.{part_linked}
 use Rattle.linked.proofs.propose_linked.Goals as goal
 
-pub slice_bounds-propose_for-end : goal.slice_bounds-propose_for-end
-slice_bounds-propose_for-end c = scratch_room c.args.job.now (sym c.read.ensures.0 ∙ c.in_ok-k.was) c.read.ensures.1
+pub slice_bounds-job-end : goal.slice_bounds-job-end
+slice_bounds-job-end c = scratch_room c.args.job.now (sym c.read.ensures.0 ∙ c.in_ok-k.was) c.read.ensures.1
+
+pub invariant_of-job : goal.invariant_of-job
+invariant_of-job c = let k = part_known c.args.job.now (sym c.read.ensures.0 ∙ c.in_ok-k.was) c.read.ensures.1 in record { allowed = k.allowed; laid = k.laid }
 
 pub propose_for-requires : goal.propose_for-requires
-propose_for-requires c = let few : c.args.passes ≤ 200 = search rules in
-    (part_known c.args.job.now (sym c.read.ensures.0 ∙ c.in_ok-k.was) c.read.ensures.1, few)
+propose_for-requires c = search rules
 
 pub returns : goal.returns
 returns c = let read = c.read.ensures in

@@ -6,4 +6,4 @@ use Rattle.linked.proofs.search.improve_from.Goals as goal
 
 pub search-before-requires : goal.search-before-requires
 unfolding of_bits
-search-before-requires c = record { factored = c.requires.0; links_is = c.links_of-links.ensures; few = c.requires.2; starts_there = start_is (job_of c.args.words.now) c.requires.1 }
+search-before-requires c = record { factored = c.requires.0; few = c.requires.2; starts_there = start_is (job_of c.args.job.words.now) c.requires.1 }

@@ -8,4 +8,4 @@ use Rattle.linked.proofs.Searching.{rejects}
 use Rattle.linked.proofs.search.search.Given as goal
 
 abbrev pub invariant-loop-p : goal.invariant-loop-p
-invariant-loop-p l = (state l.v l.y ≡ after_pass (job_of l.words) l.p) × Passed (rejects (job_of l.words)) l.p
+invariant-loop-p l = (state l.v l.y ≡ after_pass (job_of l.job.words.now) l.p) × Passed (rejects (job_of l.job.words.now)) l.p

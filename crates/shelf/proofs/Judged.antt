@@ -16,11 +16,10 @@ use borrow.Rule.Slice.PartMut.{put_mid, mid_of}
 use Rattle.whole.proofs.Fits.{small_fits, gives}
 use Rattle.std.specs.Prelude.{if◌then◌else◌}
 use Rattle.jobs.specs.Job.{Job}
-use Rattle.jobs.specs.Words.{word_at, links_of}
+use Rattle.jobs.specs.Words.{word_at}
 use Rattle.jobs.specs.Allowed.{Upto, Proposed}
 use Rattle.std.specs.Prelude.{Err}
 use Rattle.refusals.specs.declared.Refusal.TheVariants.{BadProposal}
-use Rattle.measure.specs.Given as goal
 use Rattle.measure.proofs.Lowest.{lowest_all, passed_all}
 use Rattle.slots.specs.Slots.{head_size, values_end}
 use Rattle.checked.specs.Answers.{refusal}
@@ -75,18 +74,13 @@ module _ (v y : List ℕ) where
 up_to_lem : (most : ℕ) (z : ℤ) (x : ℕ) → z ≡ pos x → x ≤ most → Upto most z
 up_to_lem most z x e h = subst (Upto most) (sym e) (record { natural = refl; small = h })
 
-pub judged_given : (ws : List ℤ) (v y : List ℕ) → Judging ws v y → goal.Given ws (proposal_of v y)
-judged_given ws v y J =
-    let f = J.fetching in
-    record {
-      allowed = f.allowed;
-      laid = f.laid;
-      proposed = subst (λ (n : ℕ). Proposed n (links_of ws) (proposal_of v y)) f.cells (subst (λ (l : ℕ). Proposed (length v) l (proposal_of v y)) f.links (record {
-        count = proposal_length v y;
-        value = λ i h. up_to_lem most_value (word_at (proposal_of v y) i) (get_or v i 0) (value_at v y i h) (leb-true (get_or v i 0) most_value (J.values_small i h));
-        multiplier = λ l h. up_to_lem most_multiplier (word_at (proposal_of v y) (length v + l)) (get_or y l 0) (multiplier_at_lem v y l) (leb-true (get_or y l 0) most_multiplier (J.multipliers_small l h));
-      }));
-    }
+pub proposed_for : (v y : List ℕ) → Judging v y → (n links : ℕ) → length v ≡ n → length y ≡ links → Proposed n links (proposal_of v y)
+proposed_for v y J n links en el =
+    subst (λ (k : ℕ). Proposed k links (proposal_of v y)) en (subst (λ (k : ℕ). Proposed (length v) k (proposal_of v y)) el (record {
+      count = proposal_length v y;
+      value = λ i h. up_to_lem most_value (word_at (proposal_of v y) i) (get_or v i 0) (value_at v y i h) (leb-true (get_or v i 0) most_value (J.values_small i h));
+      multiplier = λ l h. up_to_lem most_multiplier (word_at (proposal_of v y) (length v + l)) (get_or y l 0) (multiplier_at_lem v y l) (leb-true (get_or y l 0) most_multiplier (J.multipliers_small l h));
+    }))
 
 -- ---- what the searches found
 module _ (first most : ℕ) (numbers : List ℕ) (x : ℕ) (e : x ≡ lowest_above most numbers) (later : Verdict) where

@@ -1,7 +1,6 @@
 -- What functions inside a call count on, and what they answer.
 use Rattle.std.specs.Prelude.{ℕ, ◌≤◌, ◌<◌, ◌≡◌, true, Result, Ok, Err, List, ℤ, length}
-use Rattle.jobs.specs.Words.{count_at, cells_of, links_of, job_of}
-use Rattle.jobs.specs.Allowed.{Allowed, Laid}
+use Rattle.jobs.specs.Words.{count_at, cells_of, links_of}
 use Rattle.slots.specs.Slots.{slot_of}
 use Rattle.refusals.specs.declared.Refusal.{Refusal}
 use Rattle.checked.specs.declared.Answer.{Answer}
@@ -34,15 +33,7 @@ table_kept l words loss gap rates shelf =
     kept_from l words loss gap (taken_from 0 (cells_of words) rates) (taken_from (cells_of words) (links_of words) rates) shelf
 
 -- ---- a fetch
--- A job's words that were read, and kept numbers of as many cells and links.
-pub record Fetching (words : List ℤ) (values multipliers : List ℕ) : Type 0 where
-  pub allowed : Allowed (job_of words)
-  pub laid : Laid words
-  pub cells : length values ≡ cells_of words
-  pub links : length multipliers ≡ links_of words
-
--- The same, with every number allowed.
-pub record Judging (words : List ℤ) (values multipliers : List ℕ) : Type 0 where
-  pub fetching : Fetching words values multipliers
+-- Kept numbers of which every one is allowed.
+pub record Judging (values multipliers : List ℕ) : Type 0 where
   pub values_small : (i : ℕ) → i < length values → up_to most_value values i ≡ true
   pub multipliers_small : (l : ℕ) → l < length multipliers → up_to most_multiplier multipliers l ≡ true

@@ -1,18 +1,30 @@
-// The check of kept values and multipliers against a job's words (document 02, W-203), and what a fetch then answers.
+// The check of kept values and multipliers against a job (document 02, W-203), and what a fetch then answers.
 ghost use Rattle.std.specs.Prelude.{◌≡◌, ◌++◌, map, ◌+◌, ◌≤◌, pos, length, drop, Ok};
-ghost use Rattle.jobs.specs.Words.{job_of};
+ghost use Rattle.jobs.specs.Words.{cells_of, links_of, job_of};
 ghost use Rattle.checked.specs.Answers.{overwritten};
 ghost use Rattle.measure.specs.Check.{verdict_for};
 ghost use Rattle.shelf.specs.Fetched.{lowest_above, proposal_of, kept_verdict, handed};
-ghost use Rattle.shelf.specs.Given.{told, Fetching, Judging};
+ghost use Rattle.shelf.specs.Given.{told, Judging};
 
 use checked::Answer;
 use fields::limits::{MULTIPLIER, RATE};
 use jobs::proposal::PROPOSAL_WORDS;
-use measure::check::{Figures, Verdict, check_first};
+use jobs::words::ReadJob;
+use measure::check::{Figures, Verdict, check_proposal};
+use measure::proposed::Proposal;
 use numbers::zigzag::size_of;
 use refusals::Refusal;
 use slots::{HEAD, VALUES_END};
+
+// Kept numbers of as many cells and links as a job has.
+#[derive(Clone, Copy)]
+pub struct Kept<'j, 'k> {
+    pub job: ReadJob<'j>,
+    pub values: &'k [u32],
+    pub multipliers: &'k [u32],
+    pub ghost cells: { length values.now ≡ cells_of job.words.now },
+    pub ghost links: { length multipliers.now ≡ links_of job.words.now },
+}
 
 // The lowest of the numbers that is above `most`, or their count.
 fn lowest_above(numbers: &[u32], most: u64) -> usize
@@ -44,31 +56,35 @@ fn put_proposal(words: &mut [i64], values: &[u32], multipliers: &[u32])
     copy_signed(&mut words[n..], multipliers);
 }
 
-// The check's verdict on kept numbers that are allowed.
-fn judge(words: &[i64], values: &[u32], multipliers: &[u32]) -> Verdict
-    requires { Judging words.now values.now multipliers.now }
-    ensures { result ≡ verdict_for (job_of words.now) (proposal_of values.now multipliers.now) }
-{
-    let mut proposal = [0i64; PROPOSAL_WORDS];
-    put_proposal(&mut proposal, values, multipliers);
-    let k = values.len() + multipliers.len();
-    check_first(words, &proposal, k)
-}
+impl<'j, 'k> Kept<'j, 'k> {
+    // The check's verdict on kept numbers that are allowed.
+    fn judge(self) -> Verdict
+        requires { Judging self.values.now self.multipliers.now }
+        ensures { result ≡ verdict_for (job_of self.entry.job.words.now) (proposal_of self.entry.values.now self.entry.multipliers.now) }
+    {
+        let mut proposal = [0i64; PROPOSAL_WORDS];
+        put_proposal(&mut proposal, self.values, self.multipliers);
+        let k = self.values.len() + self.multipliers.len();
+        check_proposal(Proposal {
+            job: self.job,
+            words: &proposal[..k],
+        })
+    }
 
-// The verdict on kept numbers: 6 where one is not allowed, else the check's.
-fn kept_verdict(words: &[i64], values: &[u32], multipliers: &[u32]) -> Verdict
-    requires { Fetching words.now values.now multipliers.now }
-    ensures { result ≡ kept_verdict (job_of words.now) values.now multipliers.now }
-{
-    let cell = lowest_above(values, RATE);
-    if cell < values.len() {
-        return Err(Refusal::BadProposal(HEAD + cell));
+    // The verdict on kept numbers: 6 where one is not allowed, else the check's.
+    fn verdict(self) -> Verdict
+        ensures { result ≡ kept_verdict (job_of self.entry.job.words.now) self.entry.values.now self.entry.multipliers.now }
+    {
+        let cell = lowest_above(self.values, RATE);
+        if cell < self.values.len() {
+            return Err(Refusal::BadProposal(HEAD + cell));
+        }
+        let link = lowest_above(self.multipliers, MULTIPLIER);
+        if link < self.multipliers.len() {
+            return Err(Refusal::BadProposal(VALUES_END + link));
+        }
+        self.judge()
     }
-    let link = lowest_above(multipliers, MULTIPLIER);
-    if link < multipliers.len() {
-        return Err(Refusal::BadProposal(VALUES_END + link));
-    }
-    judge(words, values, multipliers)
 }
 
 // The values of an accepted table, to the output.
@@ -91,17 +107,11 @@ fn hand_out(values: &[u32], figures: Figures, out: &mut [u32]) -> Result<Answer,
     })
 }
 
-// What a fetch answers to kept numbers of as many cells and links as the job has.
-pub fn fetch_kept(
-    words: &[i64],
-    values: &[u32],
-    multipliers: &[u32],
-    out: &mut [u32],
-) -> Result<Answer, Refusal>
-    requires { Fetching words.now values.now multipliers.now }
-    ensures answer { told result ≡ (handed (length out.old) values.now (kept_verdict (job_of words.now) values.now multipliers.now)).answer }
-    ensures output { out.new ≡ overwritten out.old (handed (length out.old) values.now (kept_verdict (job_of words.now) values.now multipliers.now)).values }
+// What a fetch answers to kept numbers.
+pub fn fetch_kept(kept: Kept, out: &mut [u32]) -> Result<Answer, Refusal>
+    ensures answer { told result ≡ (handed (length out.old) kept.entry.values.now (kept_verdict (job_of kept.entry.job.words.now) kept.entry.values.now kept.entry.multipliers.now)).answer }
+    ensures output { out.new ≡ overwritten out.old (handed (length out.old) kept.entry.values.now (kept_verdict (job_of kept.entry.job.words.now) kept.entry.values.now kept.entry.multipliers.now)).values }
 {
-    let figures = kept_verdict(words, values, multipliers)?;
-    hand_out(values, figures, out)
+    let figures = kept.verdict()?;
+    hand_out(kept.values, figures, out)
 }

@@ -12,12 +12,6 @@ use Rattle.shelf.specs.Fetched.{kept_verdict, handed, fetch_at}
 use Rattle.shelf.proofs.Picked.{replied, cells_differ, links_differ, counts_same}
 use Rattle.shelf.proofs.fetched.fetch_at.Goals as goal
 
-pub cells_of-n-requires : goal.cells_of-n-requires
-cells_of-n-requires c = c.requires.1
-
-pub links_of-links-requires : goal.links_of-links-requires
-links_of-links-requires c = let p = c.requires.1 in (p.0, (p.1, c.cells_of-n.ensures))
-
 pub overflow_cast-span : goal.overflow_cast-span
 overflow_cast-span c = record { fits = omega (arith, c.shared_slice_known-2-1.given c.args.at) }
 
@@ -25,9 +19,9 @@ pub returns-then-span-at : goal.returns-then-span-at
 returns-then-span-at c = let a = c.args in
     let s = a.span.now in
     let o = a.out.now in
-    let j = job_of a.words.now in
+    let j = job_of a.job.words.now in
     let both = replied (refusal 12 0) (fetch_at j (length o) (drop a.at s)) (refusal 12 0).answer o o
-    (cells_differ j (length o) a.at s (λ e. c.if-span-at.true (e ∙ sym c.cells_of-n.ensures))) refl refl in record { answer = both.0; output = both.1 }
+    (cells_differ j (length o) a.at s (λ e. c.if-span-at.true (e ∙ sym c.cells-n.ensures))) refl refl in record { answer = both.0; output = both.1 }
 
 pub overflow_cast-span-2 : goal.overflow_cast-span-2
 overflow_cast-span-2 c = record { fits = omega (arith, c.shared_slice_known-3-1.given (c.args.at + 6)) }
@@ -36,44 +30,42 @@ pub returns-then-span-at-2 : goal.returns-then-span-at-2
 returns-then-span-at-2 c = let a = c.args in
     let s = a.span.now in
     let o = a.out.now in
-    let j = job_of a.words.now in
+    let j = job_of a.job.words.now in
     let both = replied (refusal 12 0) (fetch_at j (length o) (drop a.at s)) (refusal 12 0).answer o o
-    (links_differ j (length o) a.at s (λ e. c.if-span-at-2.true (e ∙ sym c.links_of-links.ensures))) refl refl in record { answer = both.0; output = both.1 }
+    (links_differ j (length o) a.at s (λ e. c.if-span-at-2.true (e ∙ sym c.links-links.ensures))) refl refl in record { answer = both.0; output = both.1 }
 
 pub overflow_add-b : goal.overflow_add-b
-overflow_add-b c = let A = c.requires.1.0 in omega (arith, A.cells_few, A.links_few, c.cells_of-n.ensures, c.links_of-links.ensures)
+overflow_add-b c = let A = c.args.job.allowed in omega (arith, A.cells_few, A.links_few, c.cells-n.ensures, c.links-links.ensures)
 
 pub overflow_add-e : goal.overflow_add-e
-overflow_add-e c = let A = c.requires.1.0 in omega (arith, A.cells_few, A.links_few, c.cells_of-n.ensures, c.links_of-links.ensures)
+overflow_add-e c = let A = c.args.job.allowed in omega (arith, A.cells_few, A.links_few, c.cells-n.ensures, c.links-links.ensures)
 
-pub slice_bounds-fetch_kept-count : goal.slice_bounds-fetch_kept-count
-slice_bounds-fetch_kept-count c = let A = c.requires.1.0 in omega (arith, A.cells_few, A.links_few, c.cells_of-n.ensures, c.links_of-links.ensures)
+pub slice_bounds-kept-count : goal.slice_bounds-kept-count
+slice_bounds-kept-count c = let A = c.args.job.allowed in omega (arith, A.cells_few, A.links_few, c.cells-n.ensures, c.links-links.ensures)
 
-pub slice_bounds-fetch_kept-end : goal.slice_bounds-fetch_kept-end
-slice_bounds-fetch_kept-end c = let A = c.requires.1.0 in omega (arith, A.cells_few, A.links_few, c.cells_of-n.ensures, c.links_of-links.ensures)
+pub slice_bounds-kept-end : goal.slice_bounds-kept-end
+slice_bounds-kept-end c = let A = c.args.job.allowed in omega (arith, A.cells_few, A.links_few, c.cells-n.ensures, c.links-links.ensures)
 
-pub slice_bounds-fetch_kept-count-2 : goal.slice_bounds-fetch_kept-count-2
-slice_bounds-fetch_kept-count-2 c = let A = c.requires.1.0 in omega (arith, A.cells_few, A.links_few, c.cells_of-n.ensures, c.links_of-links.ensures)
+pub slice_bounds-kept-count-2 : goal.slice_bounds-kept-count-2
+slice_bounds-kept-count-2 c = let A = c.args.job.allowed in omega (arith, A.cells_few, A.links_few, c.cells-n.ensures, c.links-links.ensures)
 
-pub slice_bounds-fetch_kept-end-2 : goal.slice_bounds-fetch_kept-end-2
-slice_bounds-fetch_kept-end-2 c = let A = c.requires.1.0 in omega (arith, A.cells_few, A.links_few, c.cells_of-n.ensures, c.links_of-links.ensures)
+pub slice_bounds-kept-end-2 : goal.slice_bounds-kept-end-2
+slice_bounds-kept-end-2 c = let A = c.args.job.allowed in omega (arith, A.cells_few, A.links_few, c.cells-n.ensures, c.links-links.ensures)
 
-pub fetch_kept-requires : goal.fetch_kept-requires
-fetch_kept-requires c = let p = c.requires.1 in
+pub invariant_of-kept : goal.invariant_of-kept
+invariant_of-kept c = let A = c.args.job.allowed in
     let s = c.args.span.now in
-    let n = c.cells_of-n in
-    let links = c.links_of-links in
+    let n = c.cells-n in
+    let links = c.links-links in
     let a = c.args.at + head_size in
     let d = c.args.at + values_end in
-    let few = p.0.cells_few in
-    let few-links = p.0.links_few in
+    let few = A.cells_few in
+    let few-links = A.links_few in
     let cut : a + n.result - a ≡ n.result = omega arith in
     let cut-links : d + links.result - d ≡ links.result = omega arith in
     record {
-      allowed = p.0;
-      laid = p.1;
-      cells = mid_len a (a + n.result) s (omega (arith, n.ensures, c.requires.0)) ∙ cut ∙ n.ensures;
-      links = mid_len d (d + links.result) s (omega (arith, links.ensures, c.requires.0)) ∙ cut-links ∙ links.ensures;
+      cells = mid_len a (a + n.result) s (omega (arith, n.ensures, c.requires)) ∙ cut ∙ n.ensures;
+      links = mid_len d (d + links.result) s (omega (arith, links.ensures, c.requires)) ∙ cut-links ∙ links.ensures;
     }
 
 pub returns : goal.returns
@@ -82,9 +74,9 @@ returns c = let got = c.fetch_kept in
     let s = a.span.now in
     let o = a.out.now in
     let room = length o in
-    let j = job_of a.words.now in
-    let n = c.cells_of-n in
-    let links = c.links_of-links in
+    let j = job_of a.job.words.now in
+    let n = c.cells-n in
+    let links = c.links-links in
     let b = a.at + head_size in
     let d = a.at + values_end in
     let cut : b + n.result - b ≡ n.result = omega arith in

@@ -15,10 +15,10 @@ use Rattle.shelf.proofs.Picked.{replied, fetch_found, fetch_none}
 use Rattle.shelf.proofs.fetched.fetch_in.Goals as goal
 
 pub count_at-number-requires : goal.count_at-number-requires
-count_at-number-requires c = let p = c.requires in (omega (arith, cells_inside p.1), omega (arith, p.0.number))
+count_at-number-requires c = let j = c.args.job in (omega (arith, cells_inside j.laid), omega (arith, j.allowed.number))
 
 pub overflow_cast-number : goal.overflow_cast-number
-overflow_cast-number c = record { fits = omega (arith, c.count_at-number.ensures, c.requires.0.number) }
+overflow_cast-number c = record { fits = omega (arith, c.count_at-number.ensures, c.args.job.allowed.number) }
 
 pub overflow_mul-p : goal.overflow_mul-p
 overflow_mul-p c = let a = c.args in
@@ -30,14 +30,14 @@ pub fetch_at-requires : goal.fetch_at-requires
 fetch_at-requires c = let a = c.args in
     let number = c.count_at-number.result in
     let below = found_below (has_job number) slot_words a.slots.count a.slots.span.now c.in-Some.p (sym c.find_job.ensures ∙ c.in-Some.is) in
-    (omega arith, c.requires)
+    omega arith
 
 pub returns : goal.returns
 returns c = let got = c.fetch_at in
     let a = c.args in
     let s = a.slots.span.now in
     let o = a.out.now in
-    let j = job_of a.words.now in
+    let j = job_of a.job.words.now in
     let p = c.in-Some.p in
     let e = sym (ap {B = Option ℕ} (λ (x : ℕ). lowest (has_job x) slot_words a.slots.count s) c.count_at-number.ensures) ∙ sym c.find_job.ensures ∙ c.in-Some.is in
     let both = replied (fetch_at j (length o) (drop (slot_words * p) s)) (fetch_in slot_words a.slots.count j (length o) s) (told got.result) o got.new.out
@@ -47,6 +47,6 @@ pub returns-in_default : goal.returns-in_default
 returns-in_default c = let a = c.args in
     let s = a.slots.span.now in
     let o = a.out.now in
-    let j = job_of a.words.now in
+    let j = job_of a.job.words.now in
     let e = sym (ap {B = Option ℕ} (λ (x : ℕ). lowest (has_job x) slot_words a.slots.count s) c.count_at-number.ensures) ∙ sym c.find_job.ensures ∙ c.in_default.is in
     let both = replied (refusal 12 0) (fetch_in slot_words a.slots.count j (length o) s) (refusal 12 0).answer o o (fetch_none slot_words a.slots.count j s (length o) e) refl refl in record { answer = both.0; output = both.1 }

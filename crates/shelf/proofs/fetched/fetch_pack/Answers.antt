@@ -1,6 +1,7 @@
 -- What the test of the shelf refuses is refused. Then a job that was read stands in the first k words, and a pack that does not read is its refusal.
 use Rattle.std.proofs.Common.{◌≡◌, Err, sym, ap, ◌∙◌, refl, rules, length, take, replicate, pos}
 use lib.ListN.{length-replicate}
+use lib.Seq.{length-take-le}
 use Rattle.jobs.specs.Words.{job_of}
 use Rattle.checked.specs.declared.Answer.{Answer}
 use Rattle.checked.specs.Answers.{refused}
@@ -34,13 +35,25 @@ returns-in_err-k c = let a = c.args in
     ∙ said_passed a.shelf.now call (sym c.test_shelf.ensures ∙ c.in_ok-test_shelf.was)) (ap {B = Answer} told e) refl in
     record { answer = both.0; output = both.1 }
 
-pub fetch_part-requires : goal.fetch_part-requires
-fetch_part-requires c = let read = c.read in
-    let p = presented c.args.job.now (replicate 2092 (pos 0)) (length-replicate 2092 (pos 0)) read.ensures.0 read.ensures.1 (layout_in c.args.shelf.now) 0 c.args.shelf.now c.in_ok-k.was in
-    (passed_ready _ (sym c.test_shelf.ensures ∙ c.in_ok-test_shelf.was), p.0, p.1)
+pub slice_bounds-words-end : goal.slice_bounds-words-end
+slice_bounds-words-end c =
+    (presented c.args.job.now (replicate 2092 (pos 0)) (length-replicate 2092 (pos 0)) c.read.ensures.0 c.read.ensures.1 (layout_in c.args.shelf.now) 0 c.args.shelf.now c.in_ok-k.was).0
+
+pub slice_bounds-presented-end : goal.slice_bounds-presented-end
+slice_bounds-presented-end c =
+    let p = presented c.args.job.now (replicate 2092 (pos 0)) (length-replicate 2092 (pos 0)) c.read.ensures.0 c.read.ensures.1 (layout_in c.args.shelf.now) 0 c.args.shelf.now c.in_ok-k.was in
+    sym (length-take-le c.in_ok-k.k c.read.new.words p.0)
+
+pub invariant_of-presented : goal.invariant_of-presented
+invariant_of-presented c =
+    let p = presented c.args.job.now (replicate 2092 (pos 0)) (length-replicate 2092 (pos 0)) c.read.ensures.0 c.read.ensures.1 (layout_in c.args.shelf.now) 0 c.args.shelf.now c.in_ok-k.was in
+    record { allowed = p.1.0; laid = p.1.1 }
+
+pub fetch_society-requires : goal.fetch_society-requires
+fetch_society-requires c = passed_ready _ (sym c.test_shelf.ensures ∙ c.in_ok-test_shelf.was)
 
 pub returns : goal.returns
-returns c = let got = c.fetch_part in
+returns c = let got = c.fetch_society in
     let a = c.args in
     let o = a.out.now in
     let call = fetch a.job.now (length o) in

@@ -18,7 +18,7 @@ use numbers::zigzag::size_of;
 use refusals::Refusal;
 use slots::table::Table;
 
-// n numbers from the number a on, as words of a slot.
+// n numbers from the number a on, as words of a slot, by index: after `iter_mut` a proof knows the length of a slice alone.
 fn copy_rates(rates: &[i64], a: usize, n: usize, values: &mut [u32])
     requires { Wordlike a n rates.now × (n ≤ length values.old) }
     ensures { values.new ≡ taken_from a n rates.now ++ drop n values.old }

@@ -16,7 +16,7 @@ use Rattle.jobs.specs.Job.{Job}
 use Rattle.jobs.specs.Words.{word_at}
 use Rattle.jobs.specs.Allowed.{Allowed, Proposed}
 use Rattle.jobs.specs.Packs.{job_in, read_job, write_proposal}
-use Rattle.jobs.proofs.Readings.{read_jobs_allowed, read_jobs_laid}
+use Rattle.jobs.proofs.Readings.{read_jobs_allowed}
 use Rattle.jobs.proofs.Trips.{proposed_read_back}
 use Rattle.measure.specs.Check.{Verdict, accepting, on_read, proposal_verdict, check_of, verdict_for}
 use Rattle.std.specs.Prelude.{Option, Some, None}
@@ -32,7 +32,7 @@ use Rattle.numbers.proofs.Both.{both}
 use Rattle.slots.proofs.Sizes.{found_below, slot_within, slot_end}
 use Rattle.shelf.proofs.Spans.{Lawful, span_length}
 use Rattle.shelf.proofs.Rows.{rowed_lawful}
-use Rattle.shelf.proofs.Judged.{signed_at_lem, judged_given, all_allowed}
+use Rattle.shelf.proofs.Judged.{signed_at_lem, proposed_for, all_allowed}
 use Rattle.bench.specs.Answers.{answer_words}
 use Rattle.claims.specs.Read.{proposal_in, values_in}
 use Rattle.claims.specs.BenchPromises.{ToldBest, ToldFetched}
@@ -81,12 +81,7 @@ module _ (job : List ℕ) (k : ℕ) (reads : (read_job job).outcome ≡ Ok k) (v
   kept_is = values_allowed.is ∙ multipliers_allowed.is
 
   proposed : Proposed j.cells j.links words
-  proposed =
-      (judged_given (read_job job).words v y (record {
-        fetching = record { allowed = read_jobs_allowed job k reads; laid = read_jobs_laid job k reads; cells = ev; links = ey };
-        values_small = values_allowed.small;
-        multipliers_small = multipliers_allowed.small;
-      })).proposed
+  proposed = proposed_for v y (record { values_small = values_allowed.small; multipliers_small = multipliers_allowed.small }) j.cells j.links ev ey
 
   abbrev pack : List ℕ
   pack = (write_proposal j.cells j.links words).bytes

@@ -12,9 +12,6 @@ use Rattle.shelf.specs.Fetched.{kept_verdict, handed, fetch_at}
 use Rattle.shelf.proofs.Picked.{replied, cells_differ, links_differ, counts_same}
 use Rattle.shelf.proofs.fetched.fetch_at.Goals as goal
 
-pub overflow_cast-span : goal.overflow_cast-span
-overflow_cast-span c = record { fits = omega (arith, c.shared_slice_known-2-1.given c.args.at) }
-
 pub returns-then-span-at : goal.returns-then-span-at
 returns-then-span-at c = let a = c.args in
     let s = a.span.now in
@@ -23,9 +20,6 @@ returns-then-span-at c = let a = c.args in
     let both = replied (refusal 12 0) (fetch_at j (length o) (drop a.at s)) (refusal 12 0).answer o o
     (cells_differ j (length o) a.at s (λ e. c.if-span-at.true (e ∙ sym c.cells-n.ensures))) refl refl in record { answer = both.0; output = both.1 }
 
-pub overflow_cast-span-2 : goal.overflow_cast-span-2
-overflow_cast-span-2 c = record { fits = omega (arith, c.shared_slice_known-3-1.given (c.args.at + 6)) }
-
 pub returns-then-span-at-2 : goal.returns-then-span-at-2
 returns-then-span-at-2 c = let a = c.args in
     let s = a.span.now in
@@ -33,24 +27,6 @@ returns-then-span-at-2 c = let a = c.args in
     let j = job_of a.job.words.now in
     let both = replied (refusal 12 0) (fetch_at j (length o) (drop a.at s)) (refusal 12 0).answer o o
     (links_differ j (length o) a.at s (λ e. c.if-span-at-2.true (e ∙ sym c.links-links.ensures))) refl refl in record { answer = both.0; output = both.1 }
-
-pub overflow_add-b : goal.overflow_add-b
-overflow_add-b c = let A = c.args.job.allowed in omega (arith, A.cells_few, A.links_few, c.cells-n.ensures, c.links-links.ensures)
-
-pub overflow_add-e : goal.overflow_add-e
-overflow_add-e c = let A = c.args.job.allowed in omega (arith, A.cells_few, A.links_few, c.cells-n.ensures, c.links-links.ensures)
-
-pub slice_bounds-kept-count : goal.slice_bounds-kept-count
-slice_bounds-kept-count c = let A = c.args.job.allowed in omega (arith, A.cells_few, A.links_few, c.cells-n.ensures, c.links-links.ensures)
-
-pub slice_bounds-kept-end : goal.slice_bounds-kept-end
-slice_bounds-kept-end c = let A = c.args.job.allowed in omega (arith, A.cells_few, A.links_few, c.cells-n.ensures, c.links-links.ensures)
-
-pub slice_bounds-kept-count-2 : goal.slice_bounds-kept-count-2
-slice_bounds-kept-count-2 c = let A = c.args.job.allowed in omega (arith, A.cells_few, A.links_few, c.cells-n.ensures, c.links-links.ensures)
-
-pub slice_bounds-kept-end-2 : goal.slice_bounds-kept-end-2
-slice_bounds-kept-end-2 c = let A = c.args.job.allowed in omega (arith, A.cells_few, A.links_few, c.cells-n.ensures, c.links-links.ensures)
 
 pub invariant_of-kept : goal.invariant_of-kept
 invariant_of-kept c = let A = c.args.job.allowed in

@@ -4,7 +4,6 @@ use Prim.Native.Nat.{ℕ, ◌*◌}
 use native.Mathlib.Omega.{arith}
 use lib.ListN.{length, drop}
 use Rattle.jobs.specs.Words.{job_of}
-use Rattle.jobs.proofs.Places.{cells_inside}
 use Rattle.slots.specs.Slots.{slot_words, has_job, lowest}
 use Rattle.checked.specs.Answers.{refusal}
 use Rattle.std.specs.Prelude.{Option}
@@ -13,12 +12,6 @@ use Rattle.shelf.specs.Fetched.{fetch_at, fetch_in}
 use Rattle.slots.proofs.Sizes.{found_below}
 use Rattle.shelf.proofs.Picked.{replied, fetch_found, fetch_none}
 use Rattle.shelf.proofs.fetched.fetch_in.Goals as goal
-
-pub count_at-number-requires : goal.count_at-number-requires
-count_at-number-requires c = let j = c.args.job in (omega (arith, cells_inside j.laid), omega (arith, j.allowed.number))
-
-pub overflow_cast-number : goal.overflow_cast-number
-overflow_cast-number c = record { fits = omega (arith, c.count_at-number.ensures, c.args.job.allowed.number) }
 
 pub overflow_mul-p : goal.overflow_mul-p
 overflow_mul-p c = let a = c.args in

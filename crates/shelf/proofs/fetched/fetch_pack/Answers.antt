@@ -39,15 +39,15 @@ pub slice_bounds-words-end : goal.slice_bounds-words-end
 slice_bounds-words-end c =
     (presented c.args.job.now (replicate 2092 (pos 0)) (length-replicate 2092 (pos 0)) c.read.ensures.0 c.read.ensures.1 (layout_in c.args.shelf.now) 0 c.args.shelf.now c.in_ok-k.was).0
 
-pub slice_bounds-presented-end : goal.slice_bounds-presented-end
-slice_bounds-presented-end c =
-    let p = presented c.args.job.now (replicate 2092 (pos 0)) (length-replicate 2092 (pos 0)) c.read.ensures.0 c.read.ensures.1 (layout_in c.args.shelf.now) 0 c.args.shelf.now c.in_ok-k.was in
-    sym (length-take-le c.in_ok-k.k c.read.new.words p.0)
-
 pub invariant_of-presented : goal.invariant_of-presented
 invariant_of-presented c =
     let p = presented c.args.job.now (replicate 2092 (pos 0)) (length-replicate 2092 (pos 0)) c.read.ensures.0 c.read.ensures.1 (layout_in c.args.shelf.now) 0 c.args.shelf.now c.in_ok-k.was in
     record { allowed = p.1.0; laid = p.1.1 }
+
+pub slice_bounds-presented-end : goal.slice_bounds-presented-end
+slice_bounds-presented-end c =
+    let p = presented c.args.job.now (replicate 2092 (pos 0)) (length-replicate 2092 (pos 0)) c.read.ensures.0 c.read.ensures.1 (layout_in c.args.shelf.now) 0 c.args.shelf.now c.in_ok-k.was in
+    sym (length-take-le c.in_ok-k.k c.read.new.words p.0)
 
 pub fetch_society-requires : goal.fetch_society-requires
 fetch_society-requires c = passed_ready _ (sym c.test_shelf.ensures ∙ c.in_ok-test_shelf.was)

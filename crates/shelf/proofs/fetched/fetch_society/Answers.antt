@@ -2,12 +2,10 @@
 use mathlib.Core.Path.{◌≡◌, ap, ◌∙◌}
 use mathlib.Core.List.{List}
 use Prim.Native.Nat.{ℕ, ◌+◌, ◌-◌, ◌*◌}
-use native.Mathlib.Omega.{arith}
 use lib.ListN.{length}
 use borrow.Rule.Slice.PartMut.{mid_of}
 use Rattle.slots.specs.Slots.{slot_words}
 use Rattle.jobs.specs.Words.{job_of}
-use Rattle.jobs.proofs.Places.{cells_inside}
 use Rattle.checked.specs.Answers.{Reply}
 use Rattle.shelf.specs.Given.{told}
 use Rattle.shelf.specs.Fetched.{fetch_in}
@@ -15,9 +13,6 @@ use Rattle.shelf.specs.Shelf.{layout_in, fetch_from}
 use Rattle.shelf.proofs.Picked.{replied}
 use Rattle.shelf.proofs.Society.{lent_span}
 use Rattle.shelf.proofs.fetched.fetch_society.Goals as goal
-
-pub count_at-society-requires : goal.count_at-society-requires
-count_at-society-requires c = let j = c.args.job in (omega (arith, cells_inside j.laid), omega (arith, j.allowed.society))
 
 pub returns : goal.returns
 returns c = let got = c.fetch_in in

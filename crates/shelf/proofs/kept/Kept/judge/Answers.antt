@@ -2,34 +2,19 @@
 use mathlib.Core.Path.{refl, sym, ap, ◌∙◌, subst}
 use mathlib.Core.List.{List}
 use Prim.Native.Nat.{◌+◌}
-use native.Mathlib.Omega.{arith}
 use lib.IntN.{ℤ}
 use lib.ListN.{length}
-use lib.Seq.{length-take-le}
 use Rattle.jobs.specs.Words.{cells_of, links_of, job_of}
 use Rattle.jobs.specs.Allowed.{Proposed}
 use Rattle.measure.specs.Check.{verdict_for}
 use Rattle.shelf.proofs.Judged.{proposal_front, proposal_inside, proposed_for}
 use Rattle.shelf.proofs.kept.Kept.judge.Goals as goal
 
-pub put_proposal-requires : goal.put_proposal-requires
-put_proposal-requires c = let K = c.args.self in let A = K.job.allowed in omega (arith, K.cells, K.links, A.cells_few, A.links_few)
-
-pub overflow_add-k : goal.overflow_add-k
-overflow_add-k c = let K = c.args.self in let A = K.job.allowed in omega (arith, K.cells, K.links, A.cells_few, A.links_few)
-
 pub slice_bounds-proposal-end : goal.slice_bounds-proposal-end
 slice_bounds-proposal-end c =
     let K = c.args.self in
     let put = c.put_proposal in
     proposal_inside K.values.now K.multipliers.now put.new.words _ put.ensures (length K.values.now + length K.multipliers.now) refl
-
-pub slice_bounds-check_proposal-end : goal.slice_bounds-check_proposal-end
-slice_bounds-check_proposal-end c =
-    let K = c.args.self in
-    let put = c.put_proposal in
-    let k = length K.values.now + length K.multipliers.now in
-    sym (length-take-le k put.new.words (proposal_inside K.values.now K.multipliers.now put.new.words _ put.ensures k refl))
 
 pub invariant_of-check_proposal : goal.invariant_of-check_proposal
 invariant_of-check_proposal c =

@@ -1,5 +1,5 @@
 // The proposal after a pass: values and multipliers rounded, asked of the check, and written.
-ghost use Rattle.std.specs.Prelude.{◌≡◌, ◌-◌, pos, length, get_or, replicate};
+ghost use Rattle.std.specs.Prelude.{◌≡◌, ◌-◌, length, get_or};
 ghost use Rattle.std.specs.Float.{nan};
 ghost use Rattle.packs.specs.Writing.{Leaves};
 ghost use Rattle.jobs.specs.Words.{cells_of, links_of, job_of};
@@ -29,26 +29,25 @@ fn multiplier_word(y: f64) -> i64
     round_out(y, 0, LARGEST) as i64
 }
 
-// The words of the proposal: values, then multipliers, and zeros after them.
-fn words_after(job: ReadJob, v: &[f64; CELLS], y: &[f64; LINKS]) -> [i64; PROPOSAL_WORDS]
-    ensures { result ≡ filled (λ i. multiplier_word (get_or y.now (i - cells_of job.entry.words.now) nan)) (links_of job.entry.words.now) (cells_of job.entry.words.now) (filled (λ i. value_of (job_of job.entry.words.now) i (get_or v.now i nan)) (cells_of job.entry.words.now) 0 (replicate 280 (pos 0))) }
+// The words of the proposal, into the first of a list: values, then multipliers.
+fn words_after(job: ReadJob, v: &[f64; CELLS], y: &[f64; LINKS], made: &mut [i64; PROPOSAL_WORDS])
+    ensures { made.new ≡ filled (λ i. multiplier_word (get_or y.now (i - cells_of job.entry.words.now) nan)) (links_of job.entry.words.now) (cells_of job.entry.words.now) (filled (λ i. value_of (job_of job.entry.words.now) i (get_or v.now i nan)) (cells_of job.entry.words.now) 0 made.old) }
 {
     let n = job.cells();
     let links = job.links();
     let count = n + links;
-    let mut made = [0i64; PROPOSAL_WORDS];
-    values_into(job, v, &mut made);
+    values_into(job, v, made);
     for at in n..count {
         made[at] = multiplier_word(y[at - n]);
     }
-    made
 }
 
 // Whether the check accepts the proposal.
 pub fn accepts(job: ReadJob, v: &[f64; CELLS], y: &[f64; LINKS]) -> bool
     ensures { result ≡ accepted (verdict_after (job_of job.entry.words.now) (state v.now y.now)) }
 {
-    let made = words_after(job, v, y);
+    let mut made = [0i64; PROPOSAL_WORDS];
+    words_after(job, v, y, &mut made);
     let count = job.cells() + job.links();
     let p = Proposal {
         job,
@@ -66,7 +65,8 @@ pub fn write_after(
 ) -> Result<usize, Refusal>
     ensures { Leaves (written_after (length out.old) (job_of job.entry.words.now) (state v.now y.now)) out.old result out.new }
 {
-    let made = words_after(job, v, y);
+    let mut made = [0i64; PROPOSAL_WORDS];
+    words_after(job, v, y, &mut made);
     let count = job.cells() + job.links();
     packs::writing::put(&made[0..count], out)
 }

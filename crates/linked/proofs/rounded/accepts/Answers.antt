@@ -19,10 +19,10 @@ pub slice_bounds-p-end : goal.slice_bounds-p-end
 slice_bounds-p-end c = omega (arith, words_most c.args.job c.cells.ensures c.links.ensures)
 
 pub invariant_of-p : goal.invariant_of-p
-invariant_of-p c = let part = part_is c.args.job c.args.v.now c.args.y.now c.cells.ensures c.links.ensures c.words_after-made.ensures in
+invariant_of-p c = let part = part_is c.args.job c.args.v.now c.args.y.now c.cells.ensures c.links.ensures c.words_after.ensures in
     record { proposed = rw part (linked_proposed (job_of c.args.job.words.now) (state c.args.v.now c.args.y.now) c.args.job.allowed) }
 
 pub returns : goal.returns
 unfolding verdict_after
-returns c = let part = part_is c.args.job c.args.v.now c.args.y.now c.cells.ensures c.links.ensures c.words_after-made.ensures in
+returns c = let part = part_is c.args.job c.args.v.now c.args.y.now c.cells.ensures c.links.ensures c.words_after.ensures in
     c.is_ok.ensures.value ∙ told_ok _ ∙ ap accepted (c.check_proposal.ensures ∙ ap {B = Verdict} (verdict_for (job_of c.args.job.words.now)) part)

@@ -147,8 +147,8 @@
  *   - No two slices of one call overlap, unless the call only reads both. The counts of bench_clear are no part of the shelf: copy its row to clear
  *     it with the counts that it has. A pointer to const is only read.
  *   - BENCH_STACK_BYTES of stack are free, or for a job that is no grid BENCH_LINE_STACK_BYTES: a call puts its working room there. In
- *     bytes, as measured: check 20,624, terms 20,544, keep 21,776, fetch 20,704, read 16,992, write 17,024; propose 33,360 for a line and
- *     57,376 for a grid, propose_linked 34,080 and 63,240; import 22,080, export 288, rates 1,144; forget and clear below 100.
+ *     bytes, as measured: check 20,688, terms 20,576, keep 21,840, fetch 20,768, read 16,992, write 17,024; propose 33,392 for a line and
+ *     57,456 for a grid, propose_linked 34,368 and 62,832; import 22,080, export 288, rates 1,144; forget and clear below 100.
  *   - a call names the right society: every call acts for the society that its job pack or its argument names, whoever makes it.
  *
  * Calls may run at the same time on several threads as long as no slice that one of them writes is lent to another. Calls on different

@@ -1,7 +1,7 @@
 // Hildreth's method: one link's multiplier improved after the other. A link's solution is worked out anew at every pass: 160 of them kept would take 154 KB
 // of stack.
 ghost use Rattle.std.specs.Prelude.{◌≡◌, ◌≤◌};
-ghost use Rattle.jobs.specs.Words.{links_of, job_of};
+ghost use Rattle.jobs.specs.Words.{cells_of, links_of, job_of};
 ghost use Rattle.passes.specs.Hildreth.{raised_of, fallen_from, improved_of, link_of, pass_from};
 ghost use Rattle.passes.specs.OnWords.{link_at, state};
 
@@ -34,7 +34,8 @@ fn fall(v: &mut [f64; CELLS], x: &[f64; CELLS], h: f64, n: usize)
 
 // Improves the multiplier y of a link, and lets the values fall.
 fn improve(link: Link, factor: Factor, y: f64, v: &mut [f64; CELLS]) -> f64
-    ensures { (result ≡ (improved_of factor.entry.pivots.now factor.entry.multipliers.now factor.entry.reach factor.entry.cells (link_at link.entry.job.words.now link.entry.start) y v.old).multiplier) × (v.new ≡ (improved_of factor.entry.pivots.now factor.entry.multipliers.now factor.entry.reach factor.entry.cells (link_at link.entry.job.words.now link.entry.start) y v.old).values) }
+    requires { cells_of link.words.now ≤ 120 }
+    ensures { (result ≡ (improved_of factor.entry.pivots.now factor.entry.multipliers.now factor.entry.reach factor.entry.cells (link_at link.entry.words.now link.entry.start) y v.old).multiplier) × (v.new ≡ (improved_of factor.entry.pivots.now factor.entry.multipliers.now factor.entry.reach factor.entry.cells (link_at link.entry.words.now link.entry.start) y v.old).values) }
 {
     let mut x = link.right_for();
     factor.solve(&mut x);
@@ -55,7 +56,10 @@ pub fn pass(job: ReadJob, factor: Factor, v: &mut [f64; CELLS], y: &mut [f64; LI
     let mut s = job.first_link();
     for i in 0..links {
         let was = y[i];
-        let link = Link { job, start: s };
+        let link = Link {
+            words: job.words,
+            start: s,
+        };
         let new = improve(link, factor, was, v);
         y[i] = new;
         s = next_start(job.words, s);

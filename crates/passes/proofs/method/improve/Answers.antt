@@ -7,7 +7,7 @@ use Rattle.passes.proofs.method.improve.Goals as goal
 pub returns : goal.returns
 unfolding of_bits
 returns c = let a = c.args in
-    improved_is a.factor.pivots.now a.factor.multipliers.now a.factor.reach a.factor.cells (link_at a.link.job.words.now a.link.start) a.y a.v.now
+    improved_is a.factor.pivots.now a.factor.multipliers.now a.factor.reach a.factor.cells (link_at a.link.words.now a.link.start) a.y a.v.now
     c.right_for-x.ensures
     c.solve.ensures
     c.sum_over-c.ensures

@@ -10,7 +10,7 @@ use Rattle.passes.proofs.Turns.{placed_more, placed_done}
 use Rattle.passes.proofs.link.Link.right_for.Goals as goal
 
 pub loop-m-preserved : goal.loop-m-preserved
-loop-m-preserved c = let k = link_at c.args.self.job.words.now c.args.self.start in
+loop-m-preserved c = let k = link_at c.args.self.words.now c.args.self.start in
     let t = c.count_at-t.result in
     let m = c.loop-m.m in
     ap₂ {C = List Float} (λ (i : ℕ) (a : Float). placed_from k (t - (m + 1)) (m + 1) (set c.loop-m.made i a)) c.cell-cell.ensures c.coefficient-a.ensures
@@ -18,6 +18,6 @@ loop-m-preserved c = let k = link_at c.args.self.job.words.now c.args.self.start
 
 pub returns : goal.returns
 unfolding of_bits
-returns c = let k = link_at c.args.self.job.words.now c.args.self.start in
+returns c = let k = link_at c.args.self.words.now c.args.self.start in
     let t = c.count_at-t.result in
     sym (placed_done k c.loop-m.m t c.loop-m.made (omega arith)) ∙ c.loop-m.invariant ∙ ap (λ (n : ℕ). placed_from k n 0 _) c.count_at-t.ensures

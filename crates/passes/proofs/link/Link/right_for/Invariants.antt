@@ -6,4 +6,4 @@ use Rattle.passes.specs.OnWords.{link_at}
 use Rattle.passes.proofs.link.Link.right_for.Given as goal
 
 abbrev pub invariant-loop-m : goal.invariant-loop-m
-invariant-loop-m l = placed_from (link_at l.self.job.words.now l.self.start) (l.t - l.m) l.m l.made ≡ placed_from (link_at l.self.job.words.now l.self.start) l.t 0 l.initial.made
+invariant-loop-m l = placed_from (link_at l.self.words.now l.self.start) (l.t - l.m) l.m l.made ≡ placed_from (link_at l.self.words.now l.self.start) l.t 0 l.initial.made

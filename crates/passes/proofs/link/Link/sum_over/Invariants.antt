@@ -6,4 +6,4 @@ use Rattle.passes.specs.OnWords.{link_at}
 use Rattle.passes.proofs.link.Link.sum_over.Given as goal
 
 abbrev pub invariant-loop-m : goal.invariant-loop-m
-invariant-loop-m l = plus_by (term_over (link_at l.self.job.words.now l.self.start) l.xs) l.m (l.t - l.m) l.total ≡ plus_by (term_over (link_at l.self.job.words.now l.self.start) l.xs) 0 l.t l.initial.total
+invariant-loop-m l = plus_by (term_over (link_at l.self.words.now l.self.start) l.xs) l.m (l.t - l.m) l.total ≡ plus_by (term_over (link_at l.self.words.now l.self.start) l.xs) 0 l.t l.initial.total

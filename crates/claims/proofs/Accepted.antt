@@ -1,4 +1,4 @@
--- accepting exactly, and what each refusal means: both packs read or one is refused with a number up to 6, and on two packs that read the
+-- Accepted exactly, and what each refusal means: both packs read or one is refused with a number up to 6, and on two packs that read the
 -- verdict is that on the table.
 use Prim.Native.Nat.{ℕ, ◌+◌, ◌≤◌, ◌<◌}
 use mathlib.Core.Path.{◌≡◌, refl, sym, ap, ap₂, subst, ◌∙◌}

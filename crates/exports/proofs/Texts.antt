@@ -19,11 +19,15 @@ use Rattle.decimals.specs.Decimal.{decimal}
 use Rattle.decimals.specs.Puts.{Puts, Room}
 use Rattle.decimals.specs.Whole.{largest}
 use Rattle.decimals.proofs.Digits.{digits_most}
-use Rattle.decimals.proofs.Stores.{puts_then, puts_same, room_first, room_then, room_same}
+use Rattle.decimals.proofs.Stores.{puts_then, puts_same, puts_length, room_first, room_then, room_same}
 use Rattle.numbers.proofs.Both.{both}
 use Rattle.lists.specs.Cut.{line_end}
 use Rattle.lists.specs.Lines.{rates_header, most_lines}
 use Rattle.exports.specs.Exports.{export_line, export_lines, export_text, all_upto, exportable, export_of}
+
+-- a byte that is still to be put lies within what is lent
+pub bytes_room : (part : List ℕ) {out₀ out : List ℕ} {at next i : ℕ} → Puts (take i part) out₀ at next out → Room part at out₀ → i < length part → next < length out
+bytes_room part {i = i} P room h = omega (arith, room.fits, P.next, puts_length P, length-take-le i part (omega arith))
 
 -- ---- how long
 pub line_length : (age rate : ℕ) {a b : ℕ} → a ≡ length (decimal age) → b ≡ length (decimal rate) → a ≤ 20 → b ≤ 20

@@ -21,6 +21,9 @@ module _ {ws : List ℤ} (k : Known ws) where
   pub row_of_cell : (i : ℕ) → i < cells_of ws → i / columns_of ws < rows_of ws
   row_of_cell i h = (N.div-lt_iff_lt-mul (columns_some k)).1 (omega (arith, cells_are))
 
+  pub reach_within : reach (job_of ws) < 5 * columns_of ws
+  reach_within = omega (arith, N.mul-le-mul_right (columns_of ws) k.allowed.order_few, columns_some k)
+
   pub reach_few : columns_of ws ≤ 12 → reach (job_of ws) ≤ 48
   reach_few h = N.le_trans (N.mul-le-mul_right (columns_of ws) k.allowed.order_few) (omega arith)
 

@@ -1,12 +1,23 @@
--- The whole entries of the band: that each fits 64 bits, and what the code's signed locals read back as.
-use Rattle.std.proofs.Common.{◌≡◌, ℕ, suc, ◌+◌, ◌-◌, ◌*◌, ◌^◌, ◌<◌, ◌≤◌, Bool, true, false, eqb, ℤ, pos, ◌+ℤ◌, ◌*ℤ◌, nat_abs, ap₂, arith, lit<, w64, SFits, to_z, of_z}
+-- The whole entries of the band: that each fits 64 bits and is held exactly by an f64, and what the code's signed locals read back as.
+use Rattle.std.proofs.Common.{◌≡◌, ℕ, suc, ◌+◌, ◌-◌, ◌*◌, ◌^◌, ◌<◌, ◌≤◌, Bool, true, false, T, eqb, ℤ, pos, negsuc, ◌+ℤ◌, ◌*ℤ◌, nat_abs, sym, subst, ap₂, arith, lit<, le→leb, lt→ltb, to_z-of_z, w64, SFits, to_z, of_z}
 use native.Mathlib.Nat as N
+use lib.Ieee.{binary64, in_float}
 use Rattle.std.specs.Prelude.{if◌then◌else◌}
 use Rattle.whole.proofs.Fits.{small_fits, fits_by, gives, Adds, partial_small}
 use Rattle.whole.proofs.Magnitude.{bound-+, bound-*}
 use Rattle.rows.specs.Rows.{row_of}
 use Rattle.rows.proofs.Rule.{row_small}
 use Rattle.house.specs.Band.{uses_both, product_term, squares_at, whole_entry}
+
+-- ---- an exact cast
+
+held : (x : ℤ) → nat_abs x ≤ 1000000000 → T (in_float binary64 x)
+unfolding in_float
+held (pos n) h = le→leb n (2 ^ 53) (omega arith)
+held (negsuc n) h = lt→ltb n (2 ^ 53) (omega arith)
+
+pub cast_exact : (x : ℤ) → SFits w64 x → nat_abs x ≤ 1000000000 → T (in_float binary64 (to_z w64 (of_z w64 x)))
+cast_exact x f h = subst (λ (z : ℤ). T (in_float binary64 z)) (sym (to_z-of_z f)) (held x h)
 
 -- ---- a product of two signed locals, by the numbers in them
 

@@ -8,6 +8,7 @@ use native.Mathlib.Nat as N
 use native.Mathlib.Omega.{arith}
 use lib.Dec.{T, lit<, leb→le, ltb, ltb→lt}
 use lib.IntN.{ℤ, pos, negsuc, nat_abs, ◌+ℤ◌, ◌-ℤ◌, ◌*ℤ◌}
+use lib.ListN.{length}
 use mir.Syntax.{w64}
 use mir.Val.{SFits}
 use Rattle.whole.specs.Sum.{sumℕ, only, coefficient_of}
@@ -46,6 +47,9 @@ module _ {row : List ℤ} {z stride i : ℕ} {v : List ℤ} (D : Differs row z s
         bound-* (word_at row m) (word_at v (i + m * stride)) (D.coefficients.small m (N.le_of_suc-le-suc h)) (D.rates m (N.le_of_suc-le-suc h)).small;
     room = omega (arith, D.coefficients.few);
   }
+
+  pub difference_cell : (m : ℕ) → m ≤ z → i + m * stride < length v
+  difference_cell m h = omega (arith, N.mul-le-mul_right stride h, D.inside)
 
   module _ {m : ℕ} (h : m ≤ z) where
     pub difference_term_fits : SFits w64 (word_at row m *ℤ word_at v (i + m * stride))

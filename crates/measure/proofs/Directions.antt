@@ -39,6 +39,9 @@ use Rattle.measure.proofs.Differences.{row_coefficients, row_coefficient, row_fo
 use Rattle.measure.proofs.Losses.{fit_at_most}
 use Rattle.measure.proofs.Scattered.{terms_small, added_none, added_by, added_then}
 
+pub end_inside : (width : ℕ) {row : List ℤ} {z stride i : ℕ} {v : List ℤ} → Differs row z stride i v → i % width + z * stride < length v
+end_inside width {row} {z} {stride} {i} D = omega (arith, N.mod-le i width, D.inside)
+
 -- ---- one direction, by the row of its order
 
 pub smooths_by : {v : List ℤ} {n z stride width : ℕ} {k l : ℤ} {parts : List ℤ} → k ≡ l → Smooths v n z stride width k parts → Smooths v n z stride width l parts

@@ -1,11 +1,12 @@
 -- A span after a part of it was lent to a move: a slot put, every slot moved down, one slot dropped. For any w.
 use mathlib.Core.Path.{◌≡◌, refl, sym, ap, ◌∙◌}
-use mathlib.Core.List.{List, ◌++◌, append_assoc}
+use mathlib.Core.List.{List, [], ◌++◌, append-nil, append_assoc}
 use Prim.Native.Nat.{ℕ, ◌+◌, ◌-◌, ◌*◌, ◌≤◌}
 use native.Mathlib.Omega.{arith}
-use lib.ListN.{length, take, drop, replicate, length-drop, length-append}
+use lib.ListN.{length, take, drop, replicate, length-drop, length-append, drop_of_length-le}
 use lib.Seq.{length-take-le, take_all, drop-drop, drop_at, paste}
-use borrow.Rule.Slice.PartMut.{put_mid, mid_of}
+use Rattle.std.proofs.lemmas.List.Edits.{length-paste}
+use borrow.Rule.Slice.PartMut.{put_mid, mid_of, post_of}
 use Rattle.slots.specs.Slots.{put_slot, dropped_slot, pushed}
 use Rattle.slots.proofs.Sizes.{slot_end}
 use Rattle.slots.proofs.Stored.{put_last}
@@ -28,11 +29,35 @@ module _ (w a : ℕ) (s : List ℕ) (fits : a + w ≤ length s) where
       let t : length (take a s) ≡ a = length-take-le a s (omega arith) in
       omega (arith, length-append (take a s) (drop (a + w) s), length-drop (a + w) s)
 
-  cut : paste s a (drop (a + w) s) (length s - (a + w)) ≡ front ++ drop (length s - w) s
+  pub cut : paste s a (drop (a + w) s) (length s - (a + w)) ≡ front ++ drop (length s - w) s
   cut =
       let e : a + (length s - (a + w)) ≡ length s - w = omega arith in
       ap (λ (r : List ℕ). take a s ++ r ++ drop (a + (length s - (a + w))) s) (take_all (length s - (a + w)) (drop (a + w) s) (rw length-drop (omega arith)))
       ∙ ap (λ (n : ℕ). front ++ drop n s) e
+
+  pub cut_length : length (paste s a (drop (a + w) s) (length s - (a + w))) ≡ length s
+  cut_length = length-paste s a (drop (a + w) s) (length s - (a + w)) (omega arith) (rw length-drop (omega arith))
+
+  -- ... where the words from a on were lent to the move
+  lent : mid_of a (length s - a) s ≡ drop a s
+  lent = take_all (length s - a) (drop a s) (rw length-drop (omega arith))
+
+  pub lent_length : w ≤ length (mid_of a (length s - a) s)
+  lent_length = omega (arith, ap length lent, length-drop a s)
+
+  abbrev after : List ℕ → List ℕ
+  after l = drop w l ++ drop (length l - w) l
+
+  pub lent_moved : (ys : List ℕ) → ys ≡ after (mid_of a (length s - a) s) → put_mid a (length s - a) s ys ≡ paste s a (drop (a + w) s) (length s - (a + w))
+  lent_moved ys e =
+      let none : post_of a (length s - a) s ≡ [] = drop_of_length-le (drop a s) {i = length s - a} (rw length-drop (omega arith)) in
+      let q : a + (length s - a - w) ≡ length s - w = omega arith in
+      let tail : after (drop a s) ≡ drop (a + w) s ++ drop (length s - w) s =
+          ap (λ (r : List ℕ). r ++ drop (length (drop a s) - w) (drop a s)) (drop-drop w a s)
+          ∙ ap (λ (n : ℕ). drop (a + w) s ++ drop (n - w) (drop a s)) (length-drop a s)
+          ∙ ap (λ (r : List ℕ). drop (a + w) s ++ r) (drop-drop (length s - a - w) a s ∙ ap (λ (n : ℕ). drop n s) q) in
+      ap (λ (r : List ℕ). take a s ++ (ys ++ r)) none ∙ ap (λ (r : List ℕ). take a s ++ r) (append-nil ys ∙ e ∙ ap after lent ∙ tail)
+      ∙ sym (append_assoc (take a s) (drop (a + w) s) (drop (length s - w) s)) ∙ sym cut
 
   module _ (ys : List ℕ) (moved : ys ≡ paste s a (drop (a + w) s) (length s - (a + w))) where
     last_length : length (mid_of (length s - w) (length s - (length s - w)) ys) ≡ w

@@ -4,7 +4,7 @@ use mathlib.Core.List.{List, [], ◌++◌, append-nil, append_assoc}
 use Prim.Native.Nat.{ℕ, ◌+◌, ◌-◌, ◌≤◌}
 use native.Mathlib.Omega.{arith}
 use lib.ListN.{length, take, drop, replicate, length-drop, length-append, length-replicate, drop_of_length-le}
-use lib.Seq.{length-take-le, take_all, take_at, drop_at}
+use lib.Seq.{length-take-le, take_all, take_at, drop_at, sets, sets-eq}
 use borrow.Rule.Slice.PartMut.{put_mid, mid_of, post_of}
 use Rattle.slots.specs.Slots.{head_size, most_cells, values_end, head_of, padded, slot_of}
 
@@ -25,6 +25,11 @@ put_last {A} a rest i k e h y = put_next a rest i e k y ∙ ap (λ (r : List A).
 
 pub mid_last : {A : Type 0} (a rest : List A) (i k : ℕ) → length a ≡ i → length rest ≤ k → mid_of i k (a ++ rest) ≡ rest
 mid_last a rest i k e h = mid_next a rest i e k ∙ take_all k rest h
+
+-- ---- stores over all of a list
+pub stored_all : (l h : List ℕ) → length l ≡ length h → sets l 0 h ≡ h
+stored_all l h e =
+    sets-eq h l 0 (omega arith) ∙ ap (λ (r : List ℕ). h ++ r) (drop_of_length-le l {i = 0 + length h} (omega arith)) ∙ append-nil h
 
 -- ---- words, and zeros after them
 pub padded_length : (k : ℕ) (v : List ℕ) → length v ≤ k → length (padded k v) ≡ k

@@ -53,9 +53,9 @@ module _ (w a : ℕ) (s : List ℕ) (fits : a + w ≤ length s) where
       let none : post_of a (length s - a) s ≡ [] = drop_of_length-le (drop a s) {i = length s - a} (rw length-drop (omega arith)) in
       let q : a + (length s - a - w) ≡ length s - w = omega arith in
       let tail : after (drop a s) ≡ drop (a + w) s ++ drop (length s - w) s =
-          ap (λ (r : List ℕ). r ++ drop (length (drop a s) - w) (drop a s)) (drop-drop w a s)
-          ∙ ap (λ (n : ℕ). drop (a + w) s ++ drop (n - w) (drop a s)) (length-drop a s)
-          ∙ ap (λ (r : List ℕ). drop (a + w) s ++ r) (drop-drop (length s - a - w) a s ∙ ap (λ (n : ℕ). drop n s) q) in
+      ap (λ (r : List ℕ). r ++ drop (length (drop a s) - w) (drop a s)) (drop-drop w a s)
+      ∙ ap (λ (n : ℕ). drop (a + w) s ++ drop (n - w) (drop a s)) (length-drop a s)
+      ∙ ap (λ (r : List ℕ). drop (a + w) s ++ r) (drop-drop (length s - a - w) a s ∙ ap (λ (n : ℕ). drop n s) q) in
       ap (λ (r : List ℕ). take a s ++ (ys ++ r)) none ∙ ap (λ (r : List ℕ). take a s ++ r) (append-nil ys ∙ e ∙ ap after lent ∙ tail)
       ∙ sym (append_assoc (take a s) (drop (a + w) s) (drop (length s - w) s)) ∙ sym cut
 
